@@ -1,0 +1,3 @@
+pub mod Running
+pub mod Sha256
+pub mod Stands
