@@ -44,7 +44,7 @@ taken-is g d (e ∷ ds) =
     step (fits (g .soFar) (g .size) (length d) false) (λ h. taken h e ds) g (advanced g d)
     ∙ rw (taken-is (advanced g d) e ds, joins (g .digest) d (joined (e ∷ ds)))
     (nested (fits (g .soFar) (g .size) (length d) false) (inTurn (g .soFar + length d) (g .size) e ds)
-      (ending (same (finished (absorb (g .digest) (d ++ joined (e ∷ ds)))) (g .announced))))
+    (ending (same (finished (absorb (g .digest) (d ++ joined (e ∷ ds)))) (g .announced))))
 
 both-pass : (p q : Bool) → cond p (ending q) (Err SizeRule) ≡ Ok true → (p ≡ true) × (q ≡ true)
 both-pass true true e = (refl, refl)
@@ -66,12 +66,12 @@ whole-as-announced s a d ds =
     let t : taken (begun s a) d ds ≡ cond (inTurn 0 s d ds) (ending (same (sha256 file) a)) (Err SizeRule) =
     taken-is (begun s a) d ds ∙ rw (comes-to-digest file) in (
       λ e.
-      let b = both-pass (inTurn 0 s d ds) (same (sha256 file) a) (sym t ∙ e) in
-      let l : 0 + length file ≡ s = turn-ends 0 s d ds (b .0) in
-      (cut-from-turn 0 s d ds (omega arith) (b .0), omega arith, same-decides (sha256 file) a .0 (b .1)),
+          let b = both-pass (inTurn 0 s d ds) (same (sha256 file) a) (sym t ∙ e) in
+          let l : 0 + length file ≡ s = turn-ends 0 s d ds (b .0) in
+          (cut-from-turn 0 s d ds (omega arith) (b .0), omega arith, same-decides (sha256 file) a .0 (b .1)),
       λ h.
-      let i : inTurn 0 (length file) d ds ≡ true = one-way-to-cut file d ds .1 (h .0) .1 in
-      let j : inTurn 0 s d ds ≡ true = rw (h .1) at i in
-      let k : same (sha256 file) a ≡ true = same-decides (sha256 file) a .1 (h .2) in
-      t ∙ rw (j, k),
+          let i : inTurn 0 (length file) d ds ≡ true = one-way-to-cut file d ds .1 (h .0) .1 in
+          let j : inTurn 0 s d ds ≡ true = rw (h .1) at i in
+          let k : same (sha256 file) a ≡ true = same-decides (sha256 file) a .1 (h .2) in
+          t ∙ rw (j, k),
     )

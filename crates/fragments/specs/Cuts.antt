@@ -1,9 +1,9 @@
 -- A file cut into fragments, and the law that there is one way to do it.
 use mathlib.Core.Path.{_≡_}
 use mathlib.Core.Bool.{Bool, true, false, _&&_}
-use mathlib.Core.List.{List, [], _∷_, _++_}
+use mathlib.Core.List.{List, [], _∷_, _++_, map}
 use Prim.Native.Nat.{ℕ, zero, suc, _+_, _-_, _/_}
-use lib.ListN.{length, take, drop}
+use lib.ListN.{length, take, drop, replicate}
 use Rattle.fragments.specs.Rule.{fits}
 
 -- Fragments joined.
@@ -30,3 +30,15 @@ One-way-to-cut =
     (xs d : List ℕ) (ds : List (List ℕ)) →
     ((joined (d ∷ ds) ≡ xs) × (inTurn 0 (length xs) d ds ≡ true) → d ∷ ds ≡ cut xs)
     × (d ∷ ds ≡ cut xs → (joined (d ∷ ds) ≡ xs) × (inTurn 0 (length xs) d ds ≡ true))
+
+-- The sizes of the fragments of a file of s bytes.
+abbrev pub sizes : ℕ → List ℕ
+sizes s = map length (cut (replicate s 0))
+
+pub record Sizes-worked : Type 0 where
+  pub empty : sizes 0 ≡ 0 ∷ []
+  pub one : sizes 1 ≡ 1 ∷ []
+  pub full : sizes 1024 ≡ 1024 ∷ []
+  pub past-full : sizes 1025 ≡ 1024 ∷ 1 ∷ []
+  pub two-full : sizes 2048 ≡ 1024 ∷ 1024 ∷ []
+  pub scan : sizes 2350 ≡ 1024 ∷ 1024 ∷ 302 ∷ []

@@ -5,6 +5,7 @@ mod refusal;
 mod rule;
 
 pub use laws::one_way_to_cut;
+pub use laws::sizes_worked;
 pub use laws::whole_as_announced;
 pub use progress::Progress;
 pub use refusal::FragmentRefusal;

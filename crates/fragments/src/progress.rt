@@ -34,6 +34,13 @@ impl Progress {
         self.so_far
     }
 
+    // The announced size.
+    pub fn size(&self) -> u32
+        ensures { λ r. ⌜ r ≡ standing (now (self .entry)) .size ⌝ }
+    {
+        self.size
+    }
+
     // Takes the next fragment, and tells whether the file is now whole; a refused fragment changes nothing.
     pub fn accept(&mut self, fragment: &[u8], last: bool) -> Result<bool, FragmentRefusal>
         ensures value { λ r. ⌜ r ≡ verdict (standing (now (self .entry))) (now (fragment .entry)) last ⌝ }

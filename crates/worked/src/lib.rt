@@ -1,0 +1,14 @@
+// Worked values of the public documents, as theorems about the definitions that the contracts cite.
+ghost use Rattle.worked.specs.Values.{Digests-worked, Codes-worked, Keys-worked};
+
+pub fn digests()
+    ensures { λ _. ⌜ Digests-worked ⌝ }
+{}
+
+pub fn codes()
+    ensures { λ _. ⌜ Codes-worked ⌝ }
+{}
+
+pub fn derived_keys()
+    ensures { λ _. ⌜ Keys-worked ⌝ }
+{}
