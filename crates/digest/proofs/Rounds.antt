@@ -4,21 +4,20 @@ use mathlib.Core.List.{List, [], _∷_, _++_, append-assoc}
 use Prim.Native.Nat.{ℕ, zero, suc, _+_, _-_, _*_, _<_, _≤_}
 use native.Mathlib.Numerals.{add-one}
 use native.Mathlib.Omega.{arith}
-use lib.ListN.{length, getD, take, set}
+use lib.ListN.{length, getD, take, set, length-set}
 use lib.Seq.{getD-take, take-all}
 use borrow.Author.Needs.{needs}
 use borrow.Author.Tests.{lt-ltb, le-ltb}
 use borrow.Rule.Slice.PartMut.{putMid}
-use Rattle.std.proofs.shelf.Lists.{take-more-set}
+use Rattle.std.proofs.shelf.Lists.{take-more-set, length-push, getD-append-left}
 use Rattle.std.proofs.shelf.Parts.{take-putMid, overwrites}
-use Rattle.digest.specs.Sha256.{plus, σ0, σ1, constants, word, scheduled, schedule, round, rounds, sums, compress, be4, output}
+use Rattle.digest.specs.Sha256.{constants, word, late, scheduled, schedule, round, rounds, sums, compress, be4, output}
 
 pub scheduled-early : (b w : List ℕ) (t : ℕ) → t < 16 → scheduled b w t ≡ word b t
 unfolding scheduled
 scheduled-early b w t h = rw lt-ltb
 
-pub scheduled-late : (b w : List ℕ) (t : ℕ) → 16 ≤ t
-    → scheduled b (take t w) t ≡ plus (plus (plus (σ1 (getD w (t - 2) 0)) (getD w (t - 7) 0)) (σ0 (getD w (t - 15) 0))) (getD w (t - 16) 0)
+scheduled-late : (b w : List ℕ) (t : ℕ) → 16 ≤ t → scheduled b (take t w) t ≡ late w t
 unfolding scheduled
 scheduled-late b w t h =
     let a : t - 2 < t = omega arith in
@@ -32,12 +31,44 @@ pub schedule-more : (b w : List ℕ) (t x : ℕ) → t < length w → take t w �
 unfolding schedule
 schedule-more b w t x h e n = take-more-set w t x h ∙ rw (add-one, n, e)
 
-pub schedule-all : (b w : List ℕ) (t : ℕ) → length w ≡ 64 → t ≡ 64 → take t w ≡ schedule b t → w ≡ schedule b 64
-schedule-all b w t l e i = sym (take-all 64 w (omega arith)) ∙ (rw e at i)
+-- A schedule's words stay what they are when words follow.
+schedule-length : (b : List ℕ) (n : ℕ) → length (schedule b n) ≡ n
+unfolding schedule
+schedule-length b zero = refl
+schedule-length b (suc n) = length-push (schedule b n) (scheduled b (schedule b n) n) ∙ rw (schedule-length b n, add-one)
+
+schedule-front : (b : List ℕ) (j n m : ℕ) → j < n → getD (schedule b (n + m)) j 0 ≡ getD (schedule b n) j 0
+unfolding schedule
+schedule-front b j n zero h = let e : n + 0 ≡ n = omega arith in rw e
+schedule-front b j n (suc m) h =
+    let e : n + suc m ≡ suc (n + m) = omega arith in
+    let l : j < length (schedule b (n + m)) = rw schedule-length (omega arith) in
+    rw e (getD-append-left (schedule b (n + m)) (scheduled b (schedule b (n + m)) (n + m) ∷ []) 0 j l ∙ schedule-front b j n m h)
 
 pub rounds-more : (w s v r : List ℕ) (t n : ℕ) → n ≡ t + 1 → v ≡ rounds w s t → r ≡ round (getD constants t 0) (getD w t 0) v → r ≡ rounds w s n
 unfolding rounds
 rounds-more w s v r t n e f g = g ∙ rw (e, add-one, f)
+
+-- After t rounds from s, with the schedule of the block b worked out 16 words ahead.
+abbrev pub Ahead : List ℕ → List ℕ → ℕ → List ℕ → List ℕ → Type 0
+Ahead b s t w v = (take (t + 16) w ≡ schedule b (t + 16)) × (length w ≡ 64) × (v ≡ rounds (schedule b 64) s t)
+
+pub ahead-more : (b s w x v r : List ℕ) (t u n : ℕ) → t < 48 → u ≡ t + 1 → n ≡ t + 16 → Ahead b s t w v
+    → r ≡ round (getD constants t 0) (getD w t 0) v → x ≡ set w n (late w n) → Ahead b s u x r
+ahead-more b s w x v r t u n h e f a g k =
+    let l : length w ≡ 64 = a .1 in
+    let m : t + 16 + (48 - t) ≡ 64 = omega arith in
+    let i : t < t + 16 = omega arith in
+    let word-t : getD w t 0 ≡ getD (schedule b 64) t 0 =
+    sym (getD-take (t + 16) w t 0 i) ∙ ap (λ z. getD z t 0) (a .0) ∙ sym (schedule-front b t (t + 16) (48 - t) i) ∙ ap (λ z. getD (schedule b z) t 0) m in
+    let o : u + 16 ≡ t + 16 + 1 = omega arith in (
+      rw (o, k, f) (schedule-more b w (t + 16) (late w (t + 16)) (omega arith) (a .0) (sym (scheduled-late b w (t + 16) (omega arith)))),
+      rw (k, length-set) l,
+      rounds-more (schedule b 64) s v r t u e (a .2) (g ∙ ap (λ z. round (getD constants t 0) z v) word-t),
+    )
+
+pub ahead-all : (b s w v : List ℕ) (t : ℕ) → t ≡ 48 → Ahead b s t w v → w ≡ schedule b 64
+ahead-all b s w v t e a = sym (take-all 64 w (omega arith)) ∙ (rw e at (a .0))
 
 pub compress-all : (b s w v : List ℕ) (t : ℕ) → w ≡ schedule b 64 → t ≡ 64 → v ≡ rounds w s t → sums s v ≡ compress s b
 unfolding compress

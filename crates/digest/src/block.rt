@@ -1,8 +1,8 @@
 // One block of a message: its schedule, the 64 rounds, and a hash value as bytes.
 ghost use mathlib.Core.Path.{_≡_};
-ghost use Prim.Native.Nat.{_<_};
-ghost use lib.ListN.{getD};
-ghost use Rattle.digest.specs.Sha256.{constants, word, schedule, round, compress, output};
+ghost use Prim.Native.Nat.{_+_, _<_, _≤_};
+ghost use lib.ListN.{length, getD, take, set};
+ghost use Rattle.digest.specs.Sha256.{constants, word, late, schedule, round, compress, output};
 use crate::words::big_sigma0;
 use crate::words::big_sigma1;
 use crate::words::ch;
@@ -89,20 +89,27 @@ fn word(block: &[u8; 64], t: usize) -> u32
     ])
 }
 
-fn schedule(block: &[u8; 64]) -> [u32; 64]
-    ensures { λ r. ⌜ r ≡ schedule (now (block .entry)) 64 ⌝ }
+// A schedule with its first 16 words, those of the block.
+fn first_words(block: &[u8; 64]) -> [u32; 64]
+    ensures whole { λ r. ⌜ length r ≡ 64 ⌝ }
+    ensures front { λ r. ⌜ take 16 r ≡ schedule (now (block .entry)) 16 ⌝ }
 {
     let mut w = [0u32; 64];
     for t in 0..16 {
         w[t] = word(block, t);
     }
-    for t in 16..64 {
-        w[t] = small_sigma1(w[t - 2])
-            .wrapping_add(w[t - 7])
-            .wrapping_add(small_sigma0(w[t - 15]))
-            .wrapping_add(w[t - 16]);
-    }
     w
+}
+
+// Word t of the schedule, from those before it.
+fn extend(w: &mut [u32; 64], t: usize)
+    requires { ⌜ 16 ≤ t ⌝ ∗ ⌜ t < 64 ⌝ }
+    ensures { λ _. ⌜ now (w .exit) ≡ set (now (w .entry)) t (late (now (w .entry)) t) ⌝ }
+{
+    w[t] = small_sigma1(w[t - 2])
+        .wrapping_add(w[t - 7])
+        .wrapping_add(small_sigma0(w[t - 15]))
+        .wrapping_add(w[t - 16]);
 }
 
 // Round t on the working variables v, with the message schedule w.
@@ -122,20 +129,27 @@ fn round(v: [u32; 8], w: &[u32; 64], t: usize) -> [u32; 8]
 pub(crate) fn compress(state: &mut [u32; 8], block: &[u8; 64])
     ensures { λ _. ⌜ now (state .exit) ≡ compress (now (state .entry)) (now (block .entry)) ⌝ }
 {
-    let w = schedule(block);
+    let mut w = first_words(block);
     let [a, b, c, d, e, f, g, h] = *state;
     let mut v = *state;
-    // eight rounds to a turn, so that the compiler renames the variables and moves none
-    for i in 0..8 {
-        let t = 8 * i;
+    // four rounds to a turn, and each word of the schedule 16 rounds ahead, so that the processor overlaps the two
+    for i in 0..12 {
+        let t = 4 * i;
+        v = round(v, &w, t);
+        extend(&mut w, t + 16);
+        v = round(v, &w, t + 1);
+        extend(&mut w, t + 17);
+        v = round(v, &w, t + 2);
+        extend(&mut w, t + 18);
+        v = round(v, &w, t + 3);
+        extend(&mut w, t + 19);
+    }
+    for i in 12..16 {
+        let t = 4 * i;
         v = round(v, &w, t);
         v = round(v, &w, t + 1);
         v = round(v, &w, t + 2);
         v = round(v, &w, t + 3);
-        v = round(v, &w, t + 4);
-        v = round(v, &w, t + 5);
-        v = round(v, &w, t + 6);
-        v = round(v, &w, t + 7);
     }
     *state = [
         a.wrapping_add(v[0]),

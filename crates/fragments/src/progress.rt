@@ -31,14 +31,16 @@ impl Progress {
     pub fn so_far(&self) -> u32
         ensures { λ r. ⌜ r ≡ standing (now (self .entry)) .soFar ⌝ }
     {
-        self.so_far
+        let Progress { so_far, .. } = *self;
+        so_far
     }
 
     // The announced size.
     pub fn size(&self) -> u32
         ensures { λ r. ⌜ r ≡ standing (now (self .entry)) .size ⌝ }
     {
-        self.size
+        let Progress { size, .. } = *self;
+        size
     }
 
     // Takes the next fragment, and tells whether the file is now whole; a refused fragment changes nothing.

@@ -32,6 +32,7 @@ joined-more (p ∷ ps) zero d h = append-nil (p .now)
 joined-more (p ∷ ps) (suc i) d h =
     ap (λ x. p .now ++ x) (joined-more ps i d (omega arith)) ∙ sym (append-assoc (p .now) (joined (take i ps)) (getD ps i d .now))
 
-pub parts-more : (k : List ℕ) (ps : List (RefT (List ℕ))) (i : ℕ) (c : Code) (d : RefT (List ℕ)) → i < length ps
-    → c ≡ take-in (keyed k) (joined (take i ps) ++ getD ps i d .now) → c ≡ take-in (keyed k) (joined (take (i + 1) ps))
-parts-more k ps i c d h f = f ∙ ap (λ x. take-in (keyed k) x) (sym (joined-more ps i d h) ∙ rw add-one)
+pub parts-more : (k m : List ℕ) (ps : List (RefT (List ℕ))) (i : ℕ) (c : Code) (d : RefT (List ℕ)) → i < length ps
+    → c ≡ take-in (keyed k) ((m ++ joined (take i ps)) ++ getD ps i d .now) → c ≡ take-in (keyed k) (m ++ joined (take (i + 1) ps))
+parts-more k m ps i c d h f =
+    f ∙ ap (λ x. take-in (keyed k) x) (append-assoc m (joined (take i ps)) (getD ps i d .now) ∙ ap (λ x. m ++ x) (sym (joined-more ps i d h) ∙ rw add-one))

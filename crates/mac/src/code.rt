@@ -4,6 +4,7 @@ ghost use mathlib.Core.List.{List, [], _++_};
 ghost use Prim.Native.Nat.{ℕ};
 ghost use Rattle.mac.specs.Codes.{coding, keyed, take-in, code, Authenticates};
 ghost use Rattle.mac.specs.Hmac.{hmac};
+ghost use Rattle.mac.specs.Parts.{joined};
 use crate::key::key_block;
 use crate::key::masked;
 use digest::Hasher;
@@ -20,6 +21,27 @@ impl Hmac {
         ensures value { λ r. ⌜ coding r ≡ keyed (now (key .entry)) ⌝ }
         ensures law { λ r. ⌜ Authenticates r (now (key .entry)) [] ⌝ }
     {
+        Hmac::under(key)
+    }
+
+    pub fn update(&mut self, piece: &[u8])
+        ensures after { λ _. ⌜ coding (now (self .exit)) ≡ take-in (coding (now (self .entry))) (now (piece .entry)) ⌝ }
+        ensures law { λ _. ⌜ ((k m : List ℕ) → Authenticates (now (self .entry)) k m → Authenticates (now (self .exit)) k (m ++ now (piece .entry))) ⌝ }
+    {
+        self.take_in(piece);
+    }
+
+    pub fn finish(self) -> [u8; 32]
+        ensures value { λ r. ⌜ r ≡ code (coding self) ⌝ }
+        ensures law { λ r. ⌜ ((k m : List ℕ) → Authenticates self k m → r ≡ hmac k m) ⌝ }
+    {
+        self.complete()
+    }
+
+    fn under(key: &[u8]) -> Hmac
+        ensures value { λ r. ⌜ coding r ≡ keyed (now (key .entry)) ⌝ }
+        ensures law { λ r. ⌜ Authenticates r (now (key .entry)) [] ⌝ }
+    {
         let block = key_block(key);
         let mut inner = Hasher::new();
         inner.update(&masked(&block, 0x36));
@@ -28,19 +50,28 @@ impl Hmac {
         Hmac { inner, outer }
     }
 
-    pub fn update(&mut self, piece: &[u8])
+    fn take_in(&mut self, piece: &[u8])
         ensures after { λ _. ⌜ coding (now (self .exit)) ≡ take-in (coding (now (self .entry))) (now (piece .entry)) ⌝ }
         ensures law { λ _. ⌜ ((k m : List ℕ) → Authenticates (now (self .entry)) k m → Authenticates (now (self .exit)) k (m ++ now (piece .entry))) ⌝ }
     {
         self.inner.update(piece);
     }
 
-    pub fn finish(self) -> [u8; 32]
+    fn complete(self) -> [u8; 32]
         ensures value { λ r. ⌜ r ≡ code (coding self) ⌝ }
         ensures law { λ r. ⌜ ((k m : List ℕ) → Authenticates self k m → r ≡ hmac k m) ⌝ }
     {
         let mut outer = self.outer;
         outer.update(&self.inner.finish());
         outer.finish()
+    }
+
+    // Each part in turn.
+    pub(crate) fn take_all(&mut self, parts: &[&[u8]])
+        ensures { λ _. ⌜ ((k m : List ℕ) → Authenticates (now (self .entry)) k m → Authenticates (now (self .exit)) k (m ++ joined (now (parts .entry)))) ⌝ }
+    {
+        for part in parts {
+            self.take_in(part);
+        }
     }
 }

@@ -11,8 +11,7 @@ fn xor_into(sum: &mut [u8; 32], by: &[u8; 32])
     }
 }
 
-// The derived key of 32 bytes after that many rounds; 0 rounds count as 1.
-pub fn pbkdf2(password: &[u8], salt: &[u8], rounds: u32) -> [u8; 32]
+pub(crate) fn derive(password: &[u8], salt: &[u8], rounds: u32) -> [u8; 32]
     ensures { λ r. ⌜ r ≡ pbkdf2 (now (password .entry)) (now (salt .entry)) rounds ⌝ }
 {
     let keyed = Hmac::new(password);

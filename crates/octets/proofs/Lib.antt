@@ -1,2 +1,2 @@
 pub mod Agreement
-pub mod Text
+pub mod Characters
