@@ -102,7 +102,7 @@ fn coded(key: &[u8], pieces: &[Vec<u8>]) -> [u8; 32] {
 }
 
 impl Case {
-    pub fn parse(heap: Global, line: &str) -> Result<Case, Fault> {
+    pub(crate) fn parse(heap: Global, line: &str) -> Result<Case, Fault> {
         let words: Vec<&str> = line.split(' ').collect(heap)?;
         let [first, rest @ ..] = words.as_slice() else {
             return Err(Fault::Form);
@@ -132,7 +132,7 @@ impl Case {
         }
     }
 
-    pub fn answer(&self) -> Answer {
+    pub(crate) fn answer(&self) -> Answer {
         match self {
             Case::Whole(message) => Answer::Digest(sha256(message)),
             Case::Pieces(pieces) => Answer::Digest(hashed(pieces)),

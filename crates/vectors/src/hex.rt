@@ -21,7 +21,7 @@ fn byte(high: u8, low: u8) -> Result<u8, Fault> {
     Ok(16 * high + low)
 }
 
-pub fn bytes(heap: Global, word: &str) -> Result<Vec<u8>, Fault> {
+pub(crate) fn bytes(heap: Global, word: &str) -> Result<Vec<u8>, Fault> {
     let mut out = Vec::new(heap);
     if word.is_empty() {
         return Err(Fault::Empty);
