@@ -1,4 +1,5 @@
 // Worked values of the public documents, as theorems about the definitions that the contracts cite.
+ghost use Rattle.worked.specs.Ciphers.{Ciphers-worked};
 ghost use Rattle.worked.specs.Values.{Digests-worked, Codes-worked, Keys-worked};
 
 pub fn digests()
@@ -11,4 +12,8 @@ pub fn codes()
 
 pub fn derived_keys()
     ensures { λ _. ⌜ Keys-worked ⌝ }
+{}
+
+pub fn ciphers()
+    ensures { λ _. ⌜ Ciphers-worked ⌝ }
 {}
