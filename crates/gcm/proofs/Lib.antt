@@ -1,3 +1,4 @@
+pub mod Fronting
 pub mod Law
 pub mod Numbers
 pub mod Stream

@@ -4,7 +4,9 @@ ghost use Prim.Native.Nat.{_+_, _%_, _^_, _<_};
 ghost use Rattle.aes.specs.Cipher.{aes256};
 ghost use Rattle.aes.specs.Under.{under};
 ghost use Rattle.gcm.specs.Gcm.{gctr, encrypted, tagOf, decrypted};
+ghost use Rattle.octets.specs.Fronts.{fits, placed};
 ghost use Rattle.std.specs.Options.{isSome, valueOr};
+ghost use Rattle.std.specs.declared.option.Option.the-variants.{Some};
 use crate::blocks::add_stream;
 use crate::blocks::iv_block;
 use crate::hash::hash_all;
@@ -48,6 +50,40 @@ impl Gcm {
             return false;
         }
         self.stream(iv, 2, body);
+        true
+    }
+
+    // Decrypts the body into the front of the text where the tag is the body's own and the text has room; else answers false and
+    // leaves the text as it is.
+    pub fn decrypt_to(
+        &self,
+        iv: &[u8; 12],
+        added: &[u8],
+        body: &[u8],
+        tag: &[u8; 12],
+        text: &mut [u8],
+    ) -> bool
+        ensures answer { λ r. ⌜ r ≡ fits (decrypted (under (now (self .entry) .aes)) (now (iv .entry)) (now (added .entry)) (now (body .entry)) (now (tag .entry))) (now (text .entry)) ⌝ }
+        ensures text { λ _. ⌜ now (text .exit) ≡ placed (decrypted (under (now (self .entry) .aes)) (now (iv .entry)) (now (added .entry)) (now (body .entry)) (now (tag .entry))) (now (text .entry)) ⌝ }
+    {
+        let right = self.tag(iv, added, body);
+        if !equal(tag, &right) {
+            return false;
+        }
+        self.stream_to(iv, body, text)
+    }
+
+    // The body with the key stream added, at the front of the text; false where it has no room.
+    fn stream_to(&self, iv: &[u8; 12], body: &[u8], text: &mut [u8]) -> bool
+        ensures answer { λ r. ⌜ r ≡ fits (Some (gctr (under (now (self .entry) .aes)) (now (iv .entry)) 2 (now (body .entry)))) (now (text .entry)) ⌝ }
+        ensures text { λ _. ⌜ now (text .exit) ≡ placed (Some (gctr (under (now (self .entry) .aes)) (now (iv .entry)) 2 (now (body .entry)))) (now (text .entry)) ⌝ }
+    {
+        let n = body.len();
+        if n > text.len() {
+            return false;
+        }
+        text[0..n].copy_from_slice(body);
+        self.stream(iv, 2, &mut text[0..n]);
         true
     }
 

@@ -1,0 +1,4 @@
+pub mod Admission
+pub mod Laying
+pub mod Opening
+pub mod Back
