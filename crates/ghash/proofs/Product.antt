@@ -3,7 +3,7 @@ use mathlib.Core.Path.{_≡_, refl, sym, ap, ap₂, _∙_}
 use Prim.Native.Nat.{ℕ, zero, suc, _+_, _-_, _*_, _/_, _%_, _^_, _≤_, _<_}
 use native.Mathlib.Nat.{zero-add, suc-add, add-comm}
 use native.Mathlib.Omega.{arith}
-use lib.Bits.{bitXor, xor-assoc, xor-zero-r}
+use lib.Bits.{bitXor, xor-assoc, xor-comm, xor-zero-r}
 use lib.Pow.{shr-shr}
 use Rattle.ghash.specs.Field.{halve, halves, pick, partial, product}
 
@@ -31,17 +31,17 @@ nibble y v =
     let b0 : y % 16 / 1 % 2 ≡ y / 1 % 2 = omega arith in
     cc
 
--- one nibble more of the product
-pub times-more : (j y h z : ℕ) → j < 32 → bitXor z (partial (128 - 4 * j) y (halves (4 * j) h)) ≡ product y h
-    → bitXor (bitXor z (partial 4 (y / 2 ^ (124 - 4 * j) % 16) (halves (4 * j) h))) (partial (128 - 4 * (j + 1)) y (halves (4 * (j + 1)) h)) ≡ product y h
+-- one nibble more of the product, from the lowest on
+pub times-more : (j y h z : ℕ) → j < 32 → z ≡ partial (4 * j) y (halves (128 - 4 * j) h)
+    → bitXor z (partial 4 (y / 2 ^ (4 * j) % 16) (halves (4 * (31 - j)) h)) ≡ partial (4 * (j + 1)) y (halves (128 - 4 * (j + 1)) h)
 times-more j y h z lt so-far =
-    let m = 124 - 4 * j in
-    let v = halves (4 * j) h in
-    let e : 128 - 4 * j ≡ 4 + (124 - 4 * j) = omega arith in
-    let f : 128 - 4 * (j + 1) ≡ 124 - 4 * j = omega arith in
-    let g : 4 * (j + 1) ≡ 4 * j + 4 = omega arith in
-    xor-assoc z (partial 4 (y / 2 ^ m % 16) v) (partial (128 - 4 * (j + 1)) y (halves (4 * (j + 1)) h))
-    ∙ ap (bitXor z)
-    (ap₂ bitXor (nibble (y / 2 ^ m) v) (ap₂ (λ (p q : ℕ). partial p y q) f (ap (λ (n : ℕ). halves n h) g ∙ halves-add (4 * j) 4 h))
-    ∙ sym (partial-add 4 m y v) ∙ ap (λ (n : ℕ). partial n y v) (sym e))
-    ∙ so-far
+    let v = halves (4 * (31 - j)) h in
+    let e : 4 * (j + 1) ≡ 4 + 4 * j = omega arith in
+    let f : 128 - 4 * (j + 1) ≡ 4 * (31 - j) = omega arith in
+    let g : 128 - 4 * j ≡ 4 * (31 - j) + 4 = omega arith in
+    let s : z ≡ partial (4 * j) y (halves 4 v) =
+    so-far ∙ ap (λ (q : ℕ). partial (4 * j) y q) (ap (λ (n : ℕ). halves n h) g ∙ halves-add (4 * (31 - j)) 4 h) in
+    xor-comm z (partial 4 (y / 2 ^ (4 * j) % 16) v)
+    ∙ ap₂ bitXor (nibble (y / 2 ^ (4 * j)) v) s
+    ∙ sym (partial-add 4 (4 * j) y v)
+    ∙ ap₂ (λ (p q : ℕ). partial p y q) (sym e) (ap (λ (n : ℕ). halves n h) (sym f))

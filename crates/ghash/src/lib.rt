@@ -30,13 +30,15 @@ impl Multiplier {
         self.gathered(y)
     }
 
-    // The sum of the products of each nibble of y.
+    // The sum of the products of each nibble of y, the lowest first.
     fn gathered(&self, y: u128) -> u128
         ensures { λ r. ⌜ r ≡ product y (now (self .entry) .h) ⌝ }
     {
         let mut z = 0u128;
+        let mut rest = y;
         for j in 0..32 {
-            z ^= self.table[16 * j + ((y >> (124 - 4 * j)) & 15) as usize];
+            z ^= self.table[16 * (31 - j) + (rest & 15) as usize];
+            rest >>= 4;
         }
         z
     }

@@ -2,3 +2,4 @@ pub mod Admission
 pub mod Laying
 pub mod Opening
 pub mod Back
+pub mod Measured

@@ -1,3 +1,4 @@
+pub mod Lengths
 pub mod Meaning
 pub mod Messages
 pub mod Trip

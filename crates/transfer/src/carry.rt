@@ -9,10 +9,12 @@ ghost use Rattle.transfer.specs.Carried.{Holds, Unmoved};
 use crate::failure::Failure;
 use crate::failure::MemoryFailure;
 use crate::failure::RefusedFailure;
+use crate::line::pass;
 use crate::receiver::Receiver;
-use fragments::Fragment;
+use crate::receiver::Taken;
 use fragments::Progress;
 use fragments::due;
+use message::Seal;
 use std::alloc::Global;
 
 impl Receiver {
@@ -27,11 +29,18 @@ impl Receiver {
         }
     }
 
-    // Takes the fragment of the file that is due, and tells which it was. A receiver that holds the file's front holds more of it
-    // then, and after the last one the whole file; a failure changes nothing.
-    pub fn take_next(&mut self, file: &[u8]) -> Result<Fragment, Failure>
+    // Takes the fragment of the file that is due, sealed and opened again on the way, and tells which it was. A receiver that holds the
+    // file's front holds more of it then, and after the last one the whole file; a failure changes nothing.
+    pub fn take_next<S: Seal>(
+        &mut self,
+        seal: &S,
+        number: u16,
+        file: &[u8],
+        message: &mut [u8],
+        text: &mut [u8],
+    ) -> Result<Taken, Failure>
         ensures more { λ r. ⌜ (Holds (now (self .entry)) (now (file .entry)) → made r (λ _. Holds (now (self .exit)) (now (file .entry)))) ⌝ }
-        ensures whole { λ r. ⌜ (Holds (now (self .entry)) (now (file .entry)) → made r (λ f. f .last ≡ true → vec-items (now (self .exit) .bytes) ≡ now (file .entry))) ⌝ }
+        ensures whole { λ r. ⌜ (Holds (now (self .entry)) (now (file .entry)) → made r (λ t. t .fragment .last ≡ true → vec-items (now (self .exit) .bytes) ≡ now (file .entry))) ⌝ }
         ensures kept { λ r. ⌜ refused r (λ _. Unmoved (now (self .entry)) (now (self .exit))) ⌝ }
     {
         let so_far = self.progress.so_far();
@@ -44,10 +53,16 @@ impl Receiver {
             return Err(Failure::NothingDue);
         }
         let part = &file[start..end];
+        let passed = pass(seal, number, fragment.last, part, message, text)?;
+        let length = passed.length;
+        let opened = &text[0..length];
         let mut progress = self.progress;
-        progress.accept(part, fragment.last)?;
-        self.bytes.extend_from_slice(part)?;
+        progress.accept(opened, fragment.last)?;
+        self.bytes.extend_from_slice(opened)?;
         self.progress = progress;
-        Ok(fragment)
+        Ok(Taken {
+            fragment,
+            size: passed.size,
+        })
     }
 }

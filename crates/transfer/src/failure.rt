@@ -1,5 +1,6 @@
 // Why a file could not be carried over.
 use fragments::FragmentRefusal;
+use kinds::MessageRefusal;
 use std::alloc::AllocError;
 use std::fmt;
 
@@ -9,6 +10,9 @@ pub enum Failure {
     // no fragment is due, or the file ends before it
     NothingDue,
     Refused(FragmentRefusal),
+    Message(MessageRefusal),
+    // what was opened is not what was sealed
+    Altered,
 }
 
 pub impl From<AllocError> for Failure as MemoryFailure {
@@ -23,6 +27,12 @@ pub impl From<FragmentRefusal> for Failure as RefusedFailure {
     }
 }
 
+pub impl From<MessageRefusal> for Failure as MessageFailure {
+    fn from(refusal: MessageRefusal) -> Failure {
+        Failure::Message(refusal)
+    }
+}
+
 pub impl fmt::Display for Failure as FailureDisplay {
     fn fmt<W: fmt::Write>(&self, f: &mut fmt::Formatter<W>) -> fmt::Result {
         match self {
@@ -32,6 +42,11 @@ pub impl fmt::Display for Failure as FailureDisplay {
                 let number = refusal.number();
                 write!(f, "refusal {number}")
             }
+            Failure::Message(refusal) => {
+                let number = refusal.number();
+                write!(f, "refusal {number}")
+            }
+            Failure::Altered => write!(f, "what was opened is not what was sealed"),
         }
     }
 }

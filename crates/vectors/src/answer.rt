@@ -3,21 +3,21 @@ use octets::hexadecimal;
 use std::fmt;
 
 #[derive(Drop)]
-pub enum Answer {
+pub enum Answered {
     Digest([u8; 32]),
     Same(bool),
 }
 
-pub impl fmt::Display for Answer as AnswerDisplay {
+pub impl fmt::Display for Answered as AnsweredDisplay {
     fn fmt<W: fmt::Write>(&self, f: &mut fmt::Formatter<W>) -> fmt::Result {
         match self {
-            Answer::Digest(digest) => {
+            Answered::Digest(digest) => {
                 for character in hexadecimal(digest) {
                     f.write_char(char::from(character))?;
                 }
                 Ok(())
             }
-            Answer::Same(same) => write!(f, "{same}"),
+            Answered::Same(same) => write!(f, "{same}"),
         }
     }
 }

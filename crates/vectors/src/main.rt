@@ -10,22 +10,12 @@
 //   equal A B                   whether A and B are the same
 mod answer;
 mod case;
-mod fault;
-mod hex;
 
-use answer::AnswerDisplay;
-use case::Case;
-use fault::FaultDisplay;
+use answer::Answered;
+use case::AnsweredAnswer;
+use cases::answer_lines;
 use std::io;
-use std::io::BufRead;
-use std::io::BufReader;
 
 fn main(rt: LibcRuntime) -> io::Result<()> {
-    for line in BufReader::new(rt.stdin()).lines(rt.alloc()) {
-        match Case::parse(rt.alloc(), &line?) {
-            Ok(case) => println!(rt, "{}", case.answer())?,
-            Err(fault) => println!(rt, "refused: {fault}")?,
-        }
-    }
-    Ok(())
+    answer_lines::<Answered>(&rt)
 }

@@ -1,8 +1,7 @@
-use Prim.Native.Nat.{_-_, _*_}
+use Prim.Native.Nat.{_-_, _*_, _/_, _^_}
 use mathlib.Core.Path.{_≡_}
-use lib.Bits.{bitXor}
-use Rattle.ghash.specs.Field.{halves, partial, product}
+use Rattle.ghash.specs.Field.{halves, partial}
 use Rattle.ghash.proofs.Multiplier.gathered.Given as given
 
 abbrev pub Inv-loop-j : given.InvT-loop-j
-Inv-loop-j l = bitXor (l .z) (partial (128 - 4 * l .j) (l .y) (halves (4 * l .j) (l .self .h))) ≡ product (l .y) (l .self .h)
+Inv-loop-j l = (l .z ≡ partial (4 * l .j) (l .y) (halves (128 - 4 * l .j) (l .self .h))) × (l .rest ≡ l .y / 2 ^ (4 * l .j))

@@ -10,6 +10,7 @@ pub enum Fault {
     Empty,
     Odd,
     Digit(u8),
+    Length(usize),
     Number,
     Memory,
 }
@@ -34,6 +35,7 @@ pub impl fmt::Display for Fault as FaultDisplay {
             Fault::Empty => write!(f, "an empty word (the empty string is written -)"),
             Fault::Odd => write!(f, "an odd number of hexadecimal digits"),
             Fault::Digit(byte) => write!(f, "byte {byte} is no lower-case hexadecimal digit"),
+            Fault::Length(due) => write!(f, "not {due} bytes"),
             Fault::Number => write!(f, "no number below 4294967296"),
             Fault::Memory => write!(f, "no memory"),
         }
