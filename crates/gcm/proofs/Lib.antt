@@ -1,4 +1,5 @@
 pub mod Fronting
+pub mod Halves
 pub mod Law
 pub mod Numbers
 pub mod Stream

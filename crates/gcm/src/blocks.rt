@@ -2,7 +2,7 @@
 ghost use mathlib.Core.Path.{_≡_};
 ghost use Prim.Native.Nat.{_+_, _*_, _%_, _^_, _≤_};
 ghost use lib.ListN.{length, getD};
-ghost use Rattle.gcm.specs.Blocks.{blockAt, number};
+ghost use Rattle.gcm.specs.Blocks.{blockAt, number, blockBytes};
 ghost use Rattle.gcm.specs.Gcm.{stream};
 
 // Block i of the bytes, which they fill.
@@ -79,4 +79,25 @@ pub(crate) fn add_stream(part: &mut [u8], ks: [u8; 16])
     for k in 0..part.len() {
         part[k] ^= ks[k];
     }
+}
+
+// Adds half a block of the key stream to 8 bytes.
+fn add_half(part: &mut [u8], ks: [u8; 8])
+    requires { ⌜ length (now part) ≡ 8 ⌝ }
+    ensures { λ _. ⌜ now (part .exit) ≡ stream (λ k. getD ks k 0) 0 (now (part .entry)) ⌝ }
+{
+    for k in 0..8 {
+        part[k] ^= ks[k];
+    }
+}
+
+// Adds a block of the key stream to 16 bytes, by halves, for which the machine has registers.
+pub(crate) fn add_block(part: &mut [u8], block: u128)
+    requires { ⌜ length (now part) ≡ 16 ⌝ }
+    ensures { λ _. ⌜ now (part .exit) ≡ stream (λ k. getD (blockBytes block) k 0) 0 (now (part .entry)) ⌝ }
+{
+    let high = ((block >> 64) as u64).to_be_bytes();
+    let low = ((block & 0xffff_ffff_ffff_ffff) as u64).to_be_bytes();
+    add_half(&mut part[0..8], high);
+    add_half(&mut part[8..16], low);
 }

@@ -7,6 +7,7 @@ ghost use Rattle.gcm.specs.Gcm.{gctr, encrypted, tagOf, decrypted};
 ghost use Rattle.octets.specs.Fronts.{fits, placed};
 ghost use Rattle.std.specs.Options.{isSome, valueOr};
 ghost use Rattle.std.specs.declared.option.Option.the-variants.{Some};
+use crate::blocks::add_block;
 use crate::blocks::add_stream;
 use crate::blocks::iv_block;
 use crate::hash::hash_all;
@@ -104,8 +105,8 @@ impl Gcm {
         let full = text.len() / 16;
         let rest = text.len() % 16;
         for i in 0..full {
-            let ks = self.counter_block(base, i + first).to_be_bytes();
-            add_stream(&mut text[16 * i..16 * i + 16], ks);
+            let block = self.counter_block(base, i + first);
+            add_block(&mut text[16 * i..16 * i + 16], block);
         }
         let ks = self.counter_block(base, full + first).to_be_bytes();
         add_stream(&mut text[16 * full..16 * full + rest], ks);
