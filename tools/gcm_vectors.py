@@ -13,11 +13,10 @@ Operation (GCM)" by McGrew and Viega. crates/gcm_vectors/src/main.rt has the for
 """
 
 import random
-from pathlib import Path
 
+from case_files import line, save, word
 from cryptography.hazmat.primitives.ciphers import Cipher, algorithms, modes
 
-HOME = Path(__file__).resolve().parent.parent / "crates" / "gcm_vectors"
 LENGTHS = [*range(101), 1024, 4096]
 
 KEY = "feffe9928665731c6d6a8f9467308308feffe9928665731c6d6a8f9467308308"
@@ -63,14 +62,6 @@ REFUSED = [
     (f"encrypt {NO_KEY} {NO_IV} AB -", "byte 65 is no lower-case hexadecimal digit"),
     (f"decrypt {NO_KEY} {NO_IV} - -- {NO_IV}", "byte 45 is no lower-case hexadecimal digit"),
 ]
-
-
-def word(data):
-    return data.hex() or "-"
-
-
-def line(form, *data):
-    return " ".join([form, *map(word, data)])
 
 
 def encrypted(key, iv, additional, text):
@@ -154,11 +145,7 @@ def random_moved(rng):
 def main():
     rng = random.Random("aes-256-gcm")
     cases = [*published(), *random_right(rng), *random_damaged(rng), *random_moved(rng)]
-    for text, reason in REFUSED:
-        cases.insert(rng.randint(0, len(cases)), (text, f"refused: {reason}"))
-    for name, column in ("stdin", 0), ("stdout", 1):
-        (HOME / name).write_text("".join(case[column] + "\n" for case in cases), encoding="utf-8")
-    print(f"{len(cases)} cases")
+    save("gcm_vectors", rng, cases, REFUSED)
 
 
 if __name__ == "__main__":

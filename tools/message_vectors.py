@@ -12,14 +12,12 @@ come from a fixed seed, so a second run writes the same files. crates/message_ve
 import hashlib
 import hmac
 import random
-from pathlib import Path
 
+from case_files import save, word
 from cryptography.exceptions import InvalidTag
 from cryptography.hazmat.primitives.ciphers import Cipher
 from cryptography.hazmat.primitives.ciphers.algorithms import AES
 from cryptography.hazmat.primitives.ciphers.modes import GCM
-
-HOME = Path(__file__).resolve().parent.parent / "crates" / "message_vectors"
 
 LOG_IN, LOG_IN_RESPONSE, COMMAND, RESPONSE = 0x0000, 0x0010, 0x0100, 0x0110
 UPLOAD, LAST_UPLOAD, UPLOAD_RESPONSE = 0x0200, 0x0201, 0x0210
@@ -110,10 +108,6 @@ MALFORMED = [
 
 def two(n):
     return n.to_bytes(2, "big")
-
-
-def word(data):
-    return data.hex() or "-"
 
 
 class Closed:
@@ -400,11 +394,7 @@ def main():
     rng = random.Random("messages under both seals")
     cases = [*worked(), *every_kind(rng), *too_much(rng), *numbers(rng), *types(rng), *sizes(rng), *header_bytes(), *order(),
              *pairs(), *changed(rng)]
-    for text, reason in MALFORMED:
-        cases.insert(rng.randint(0, len(cases)), (text, f"refused: {reason}"))
-    for name, column in ("stdin", 0), ("stdout", 1):
-        (HOME / name).write_text("".join(case[column] + "\n" for case in cases), encoding="utf-8")
-    print(f"{len(cases)} cases")
+    save("message_vectors", rng, cases, MALFORMED)
 
 
 if __name__ == "__main__":

@@ -19,9 +19,9 @@ rounds count as 1, where hashlib takes no 0.
 import hashlib
 import hmac
 import random
-from pathlib import Path
 
-HOME = Path(__file__).resolve().parent.parent / "crates" / "vectors"
+from case_files import line, save, word
+
 EDGES = [0, 1, 3, 4, 31, 32, 33, 54, 55, 56, 57, 63, 64, 65, 111, 112, 118, 119, 120, 121, 127, 128, 129, 183, 184,
          191, 192, 193, 247, 248, 255, 256, 257, 300]
 KEY_EDGES = [0, 1, 20, 32, 55, 56, 62, 63, 64, 65, 66, 100, 127, 128, 129, 131, 200]
@@ -83,14 +83,6 @@ REFUSED = [
     ("repeat -1 61", "no number below 4294967296"),
     ("pbkdf2 61 62 4294967296", "no number below 4294967296"),
 ]
-
-
-def word(data):
-    return data.hex() or "-"
-
-
-def line(form, *data):
-    return " ".join([form, *map(word, data)])
 
 
 def sha256(data):
@@ -172,11 +164,7 @@ def comparisons(rng):
 def main():
     rng = random.Random("sha-256, hmac and pbkdf2")
     cases = [*published(), *random_digests(rng), *random_codes(rng), *comparisons(rng)]
-    for text, reason in REFUSED:
-        cases.insert(rng.randint(0, len(cases)), (text, f"refused: {reason}"))
-    for name, column in ("stdin", 0), ("stdout", 1):
-        (HOME / name).write_text("".join(case[column] + "\n" for case in cases), encoding="utf-8")
-    print(f"{len(cases)} cases")
+    save("vectors", rng, cases, REFUSED)
 
 
 if __name__ == "__main__":
