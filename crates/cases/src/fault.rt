@@ -1,4 +1,6 @@
 // Why a line is refused.
+ghost use mathlib.Core.Path.{_≡_};
+ghost use Rattle.cases.specs.declared.fault.Fault.the-variants.{Memory};
 use std::alloc::AllocError;
 use std::alloc::Refused;
 use std::fmt;
@@ -16,12 +18,16 @@ pub enum Fault {
 }
 
 pub impl From<AllocError> for Fault as FaultFromAlloc {
+    ghost converts = { λ _ r. r ≡ Memory };
+
     fn from(_e: AllocError) -> Fault {
         Fault::Memory
     }
 }
 
 pub impl<T: Drop> From<Refused<T>> for Fault as FaultFromRefused {
+    ghost converts = { λ _ r. r ≡ Memory };
+
     fn from(_e: Refused<T>) -> Fault {
         Fault::Memory
     }

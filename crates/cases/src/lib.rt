@@ -14,5 +14,4 @@ pub use lines::Answer;
 pub use lines::answer_lines;
 pub use word::array;
 pub use word::bytes;
-pub use word::every;
 pub use word::number;

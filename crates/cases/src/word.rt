@@ -1,6 +1,12 @@
 // What a word of a line says.
 ghost use mathlib.Core.Path.{_≡_};
-ghost use Rattle.cases.specs.Hex.{digit};
+ghost use mathlib.Core.Logic.{_⊎_};
+ghost use Rattle.cases.specs.Hex.{digit, pair, decoded, worded, exactly};
+ghost use Rattle.cases.specs.declared.fault.Fault.the-variants.{Memory, Number};
+ghost use Rattle.std.specs.Of.Vec.{vec-items};
+ghost use Rattle.std.specs.Reads.{ReadsUnsigned};
+ghost use Rattle.std.specs.Vec.{made, refused};
+ghost use Rattle.std.specs.declared.result.Result.the-variants.{Ok, Err};
 use crate::fault::Fault;
 use crate::fault::FaultFromRefused;
 use std::alloc::Global;
@@ -15,51 +21,58 @@ fn digit(b: u8) -> Option<u8>
     }
 }
 
-fn byte(high: u8, low: u8) -> Result<u8, Fault> {
+fn byte(high: u8, low: u8) -> Result<u8, Fault>
+    ensures { λ r. ⌜ r ≡ pair high low ⌝ }
+{
     let high = digit(high).ok_or(Fault::Digit(high))?;
     let low = digit(low).ok_or(Fault::Digit(low))?;
     Ok(16 * high + low)
 }
 
-fn decoded(heap: Global, digits: &[u8]) -> Result<Vec<u8>, Fault> {
+fn decoded(heap: Global, digits: &[u8]) -> Result<Vec<u8>, Fault>
+    ensures bytes { λ r. ⌜ made r (λ v. decoded (now (digits .entry)) ≡ Ok (vec-items v)) ⌝ }
+    ensures fault { λ r. ⌜ refused r (λ e. (e ≡ Memory) ⊎ (decoded (now (digits .entry)) ≡ Err e)) ⌝ }
+{
     let mut out = Vec::new(heap);
-    for i in 0..digits.len() / 2 {
-        out.push(byte(digits[2 * i], digits[2 * i + 1])?)?;
+    let mut rest = digits;
+    while rest.len() >= 2 {
+        out.push(byte(rest[0], rest[1])?)?;
+        rest = &rest[2..];
+    }
+    if rest.len() == 1 {
+        return Err(Fault::Odd);
     }
     Ok(out)
 }
 
 // Bytes in lower-case hexadecimal, the empty string as `-`.
-pub fn bytes(heap: Global, word: &str) -> Result<Vec<u8>, Fault> {
+pub fn bytes(heap: Global, word: &str) -> Result<Vec<u8>, Fault>
+    ensures bytes { λ r. ⌜ made r (λ v. worded (now (word .entry)) ≡ Ok (vec-items v)) ⌝ }
+    ensures fault { λ r. ⌜ refused r (λ e. (e ≡ Memory) ⊎ (worded (now (word .entry)) ≡ Err e)) ⌝ }
+{
     match word.as_bytes() {
         [] => Err(Fault::Empty),
         b"-" => Ok(Vec::new(heap)),
-        digits => if digits.len() % 2 == 0 {
-            decoded(heap, digits)
-        } else {
-            Err(Fault::Odd)
-        },
+        digits => decoded(heap, digits),
     }
-}
-
-// The bytes of each word.
-pub fn every(heap: Global, words: &[&str]) -> Result<Vec<Vec<u8>>, Fault> {
-    let mut all = Vec::new(heap);
-    for word in words {
-        all.push(bytes(heap, word)?)?;
-    }
-    Ok(all)
 }
 
 // Exactly N bytes.
-pub fn array<const N: usize>(heap: Global, word: &str) -> Result<[u8; N], Fault> {
+pub fn array<const N: usize>(heap: Global, word: &str) -> Result<[u8; N], Fault>
+    ensures bytes { λ r. ⌜ made r (λ a. exactly N (worded (now (word .entry))) ≡ Ok a) ⌝ }
+    ensures fault { λ r. ⌜ refused r (λ e. (e ≡ Memory) ⊎ (exactly N (worded (now (word .entry))) ≡ Err e)) ⌝ }
+{
     match <[u8; N]>::try_from(bytes(heap, word)?.as_slice()) {
         Ok(all) => Ok(all),
         Err(_) => Err(Fault::Length(N)),
     }
 }
 
-pub fn number(word: &str) -> Result<u32, Fault> {
+// A decimal number, which a plus may begin.
+pub fn number(word: &str) -> Result<u32, Fault>
+    ensures value { λ r. ⌜ ReadsUnsigned 32 10 (now (word .entry)) r ⌝ }
+    ensures fault { λ r. ⌜ refused r (λ e. e ≡ Number) ⌝ }
+{
     match word.parse::<u32>() {
         Ok(n) => Ok(n),
         Err(_) => Err(Fault::Number),

@@ -4,12 +4,22 @@ use crate::answer::AnsweredDisplay;
 use cases::Answer;
 use cases::Fault;
 use cases::FaultFromAlloc;
-use cases::every;
+use cases::FaultFromRefused;
+use cases::bytes;
 use cases::number;
 use digest::Hasher;
 use mac::Hmac;
 use mac::hmac_parts;
 use std::alloc::Global;
+
+// The bytes of each word.
+fn every(heap: Global, words: &[&str]) -> Result<Vec<Vec<u8>>, Fault> {
+    let mut all = Vec::new(heap);
+    for word in words {
+        all.push(bytes(heap, word)?)?;
+    }
+    Ok(all)
+}
 
 fn sha256(parts: &[Vec<u8>]) -> Result<Answered, Fault> {
     let [message] = parts else {
