@@ -1,4 +1,6 @@
 // AES-256 (FIPS 197): the expansion of a key, and the encryption of one block.
+#![tactic(auto)]
+
 ghost use Rattle.std.specs.Prelude.{◌≡◌};
 ghost use Rattle.aes.specs.Cipher.{aes256};
 ghost use Rattle.aes.specs.Under.{under};

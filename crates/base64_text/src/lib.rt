@@ -1,4 +1,6 @@
 // Base64 with padding (RFC 4648, section 4), written into lent buffers.
+#![tactic(auto)]
+
 ghost use Rattle.std.specs.Prelude.{◌≡◌, is_some, Some, Decides};
 ghost use Rattle.octets.specs.Fronts.{placed};
 ghost use Rattle.base64_text.specs.Base64.{encode, decode};

@@ -1,4 +1,6 @@
 // What the programs that answer cases have in common: a case is a line of words, and a word is a name, a number or bytes.
+#![tactic(auto)]
+
 mod fault;
 mod hex;
 mod lines;

@@ -1,4 +1,6 @@
 // The causes for which a command is refused.
+#![tactic(auto)]
+
 mod cause;
 mod laws;
 

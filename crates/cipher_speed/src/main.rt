@@ -1,5 +1,7 @@
 // Encrypts much: `cipher_speed STREAM MESSAGES` prints the last tag of STREAM MiB in pieces of 64 KiB, and then that of
 // MESSAGES MiB in messages of 1,024 bytes with 32 bytes of additional data.
+#![tactic(auto)]
+
 use anyhow::anyhow;
 use cases::Hex;
 use gcm::Gcm;

@@ -1,4 +1,6 @@
 // Commands, read from their texts and written as them.
+#![tactic(auto)]
+
 mod command;
 mod laws;
 mod reader;

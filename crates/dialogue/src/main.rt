@@ -1,5 +1,7 @@
 // The texts of an upload of one scan: log-in, command and what answers them, each written by the end that says it and read back as the
 // other end does.
+#![tactic(auto)]
+
 mod announcement;
 mod shown;
 mod text_failure;

@@ -1,4 +1,6 @@
 // SHA-256 (FIPS 180-4), in one go or piece by piece.
+#![tactic(auto)]
+
 ghost use Rattle.std.specs.Prelude.{◌≡◌};
 ghost use Rattle.digest.specs.Sha256.{sha256};
 

@@ -1,4 +1,6 @@
 // Texts in fields: cut at byte 10 and read field by field, and written from fields.
+#![tactic(auto)]
+
 mod field;
 mod laws;
 mod reader;

@@ -1,4 +1,6 @@
 // A file in fragments: the rule for their sizes, and how far a file has come.
+#![tactic(auto)]
+
 mod laws;
 mod progress;
 mod refusal;

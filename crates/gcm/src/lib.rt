@@ -1,4 +1,6 @@
 // AES-256-GCM (SP 800-38D) with an IV of 12 bytes and a tag of 12 bytes, in place.
+#![tactic(auto)]
+
 mod blocks;
 mod cipher;
 mod hash;

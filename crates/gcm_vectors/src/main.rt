@@ -4,6 +4,8 @@
 // and TAG have 12:
 //   encrypt KEY IV ADDITIONAL TEXT      the body and the tag
 //   decrypt KEY IV ADDITIONAL BODY TAG  `true` and the text, or `false` and the body as it stands afterwards
+#![tactic(auto)]
+
 mod answer;
 mod case;
 

@@ -1,4 +1,6 @@
 // Multiplication by a fixed block in GF(2^128) (SP 800-38D, section 6.3), by 32 rows of 16 products.
+#![tactic(auto)]
+
 ghost use Rattle.std.specs.Prelude.{◌≡◌};
 ghost use Rattle.ghash.specs.Field.{product};
 ghost use Rattle.ghash.specs.Table.{Products};

@@ -1,4 +1,6 @@
 // The header of a message: its 16 bytes read and written, refusals 7 to 9.
+#![tactic(auto)]
+
 mod header;
 mod laws;
 

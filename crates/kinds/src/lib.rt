@@ -1,4 +1,6 @@
 // Kinds of messages, their codes, the checks of type and number, and the refusals of a message.
+#![tactic(auto)]
+
 mod check;
 mod kind;
 mod laws;

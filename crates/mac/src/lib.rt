@@ -1,4 +1,6 @@
 // HMAC-SHA-256 (RFC 2104), and PBKDF2 (RFC 8018) over it.
+#![tactic(auto)]
+
 ghost use Rattle.std.specs.Prelude.{◌≡◌};
 ghost use Rattle.mac.specs.Hmac.{hmac};
 ghost use Rattle.mac.specs.Parts.{joined};

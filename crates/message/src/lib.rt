@@ -1,4 +1,6 @@
 // Messages under any seal: written, and received past refusals 3 and 7 to 12.
+#![tactic(auto)]
+
 mod laws;
 mod receiving;
 mod seal;

@@ -7,6 +7,8 @@
 // SEAL is `closed` or `open`; KIND is the code of a kind; EXPECTED is such codes with commas between them, or `-`; NUMBER and LAST are
 // decimal. A refusal gives `refused` and its number. Lent buffers are filled with a byte first, and where one was touched that must
 // not be, this is told instead.
+#![tactic(auto)]
+
 mod answer;
 mod case;
 mod choice;

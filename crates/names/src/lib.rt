@@ -1,4 +1,6 @@
 // Names of files and directories, and names of users.
+#![tactic(auto)]
+
 ghost use Rattle.std.specs.Prelude.{◌≡◌};
 ghost use Rattle.names.specs.Names.{name, user};
 

@@ -1,4 +1,6 @@
 // Numbers and digests as text: hexadecimal digests read, decimals read and written.
+#![tactic(auto)]
+
 ghost use Rattle.std.specs.Prelude.{◌≡◌, ◌^◌, ◌<◌, ◌≤◌, length, take, IfSome, decimal};
 ghost use Rattle.numerals.specs.Decimals.{decimal_of};
 ghost use Rattle.numerals.specs.Digests.{digit_of, digest_of};

@@ -1,4 +1,6 @@
 // What every layer does with plain bytes: compares them without an early exit, and shows a digest as text.
+#![tactic(auto)]
+
 ghost use Rattle.std.specs.Prelude.{◌≡◌, Decides};
 ghost use Rattle.octets.specs.Equality.{same};
 ghost use Rattle.octets.specs.Hexadecimal.{hexadecimal};

@@ -1,4 +1,6 @@
 // The payloads besides commands: log-ins, responses and go-aheads, read from their texts and written as them.
+#![tactic(auto)]
+
 mod go_ahead;
 mod laws;
 mod log_in;

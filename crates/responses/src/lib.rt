@@ -1,4 +1,6 @@
 // Responses to commands: their texts read and written.
+#![tactic(auto)]
+
 mod laws;
 mod reader;
 mod response;

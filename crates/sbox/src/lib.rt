@@ -1,4 +1,6 @@
 // The S-box of AES (FIPS 197) as a table, and its rule at every entry.
+#![tactic(auto)]
+
 ghost use Rattle.std.specs.Prelude.{◌≡◌};
 ghost use Rattle.sbox.specs.Substitution.{sub_byte, inverse, Inverse};
 

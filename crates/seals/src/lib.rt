@@ -1,4 +1,6 @@
 // The two seals: closed (AES-256-GCM) and open (HMAC-SHA-256).
+#![tactic(auto)]
+
 mod closed;
 mod open;
 

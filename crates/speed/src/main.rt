@@ -1,5 +1,7 @@
 // Hashes much: `speed STREAM MESSAGES` prints the digest of STREAM MiB fed in pieces of 64 KiB, and then what a chain of
 // MESSAGES MiB in messages of 1,024 bytes comes to.
+#![tactic(auto)]
+
 use anyhow::anyhow;
 use octets::hexadecimal;
 use std::env;

@@ -1,4 +1,6 @@
 // Stores, by their meaning: the reading half and the writing half, their faults, and the order of keys.
+#![tactic(auto)]
+
 mod fault;
 mod key;
 mod laws;

@@ -22,6 +22,8 @@
 // Of a response `read` also tells the status, after its digest, and the place of every field, START-END, after all else.
 // A text that is refused gives `refused 13`, the number of its first wrong field and its place; values that are not written give
 // `refused` and the number; what is not written again as it was read, as a text of more than 4,096 bytes, gives `not written back`.
+#![tactic(auto)]
+
 mod answer;
 mod case;
 mod kind;

@@ -1,5 +1,7 @@
 // Carries one scan from its file to a receiver, as an upload does: announced, cut into fragments, each sealed and opened again, and put
 // together again; once under each seal.
+#![tactic(auto)]
+
 ghost use Rattle.std.specs.Prelude.{◌≡◌, true, IfOk};
 ghost use Rattle.transfer.specs.Carried.{Holds};
 

@@ -8,6 +8,8 @@
 //   parts KEY A B C             the code of three parts
 //   pbkdf2 PASSWORD SALT ROUNDS the derived key
 //   equal A B                   whether A and B are the same
+#![tactic(auto)]
+
 mod answer;
 mod case;
 

@@ -1,4 +1,6 @@
 // The words of commands and of responses.
+#![tactic(auto)]
+
 mod laws;
 mod status;
 mod word;

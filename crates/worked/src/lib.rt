@@ -1,4 +1,6 @@
 // Worked values of the public documents, as theorems about the definitions that the contracts cite.
+#![tactic(auto)]
+
 ghost use Rattle.worked.specs.Ciphers.{CiphersWorked};
 ghost use Rattle.worked.specs.Values.{DigestsWorked, CodesWorked, KeysWorked};
 
