@@ -17,9 +17,9 @@ pub loop-rest-preserved : goal.loop-rest-preserved
 loop-rest-preserved c =
     let xs = vec_items c.loop-rest.out in
     let rest = c.loop-rest.rest.now in
-    let b = c.in-ok-byte.field-0 in
-    let grown = c.push.ensures.items ∙ ap (λ r. cond (is_ok r) (xs ++ b ∷ []) xs) c.in-ok-push.was in
-    let e = sym c.byte.ensures ∙ c.in-ok-byte.was in
+    let b = c.in_ok-byte.field-0 in
+    let grown = c.push.ensures.items ∙ ap (λ r. cond (is_ok r) (xs ++ b ∷ []) xs) c.in_ok-push.was in
+    let e = sym c.byte.ensures ∙ c.in_ok-byte.was in
     c.loop-rest.invariant ∙ goes_on xs rest b c.loop-rest-test.true e ∙
     ap (λ (ys : List ℕ). onto ys (decoded (take (length rest - 2) (drop 2 rest)))) (sym grown)
 

@@ -5,7 +5,7 @@ use Rattle.digest.proofs.block.compress.Goals as goal
 
 pub loop-i-init : goal.loop-i-init
 unfolding rounds
-loop-i-init c = (c.first-words-w.ensures.front, c.first-words-w.ensures.whole, refl)
+loop-i-init c = (c.first_words-w.ensures.front, c.first_words-w.ensures.whole, refl)
 
 pub loop-i-preserved : goal.loop-i-preserved
 loop-i-preserved c =

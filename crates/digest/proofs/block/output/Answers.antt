@@ -9,8 +9,8 @@ loop-i-init c = (refl, refl)
 
 pub loop-i-preserved : goal.loop-i-preserved
 loop-i-preserved c =
-    output_put c.args.state.now c.loop-i.bytes c.copy-from-slice.new.self c.loop-i.i _ (omega arith) (omega arith)
-    c.loop-i.invariant.1 c.loop-i.invariant.0 (c.copy-from-slice.ensures.after ∙ c.to-be-bytes.ensures) (omega arith)
+    output_put c.args.state.now c.loop-i.bytes c.copy_from_slice.new.self c.loop-i.i _ (omega arith) (omega arith)
+    c.loop-i.invariant.1 c.loop-i.invariant.0 (c.copy_from_slice.ensures.after ∙ c.to_be_bytes.ensures) (omega arith)
 
 pub returns : goal.returns
 returns c = output-all c.args.state.now c.loop-i.bytes c.loop-i.i (omega arith) (omega arith) c.loop-i.invariant.1 c.loop-i.invariant.0

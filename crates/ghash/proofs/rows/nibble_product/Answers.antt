@@ -10,4 +10,4 @@ unfolding partial
 returns c =
     let n = c.args.n in
     let b0 : n / 1 ≡ n = omega arith in
-    cc (xor_zero_r c.pick-block-4.result)
+    cc (xor_zero_r c.pick_block-4.result)

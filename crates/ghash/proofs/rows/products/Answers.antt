@@ -13,6 +13,6 @@ pub loop-j-preserved : goal.loop-j-preserved
 loop-j-preserved c =
     let j = c.loop-j.j in
     let e : 4 * (j + 1) ≡ 4 * j + 4 = omega arith in (
-      c.four-on-v.ensures ∙ ap (halves 4) c.loop-j.invariant.0 ∙ sym (ap (λ (n : ℕ). halves n c.args.h) e ∙ halves-add (4 * j) 4 c.args.h),
-      λ k lt. c.fill-row.ensures k (omega arith),
+      c.four_on-v.ensures ∙ ap (halves 4) c.loop-j.invariant.0 ∙ sym (ap (λ (n : ℕ). halves n c.args.h) e ∙ halves-add (4 * j) 4 c.args.h),
+      λ k lt. c.fill_row.ensures k (omega arith),
     )

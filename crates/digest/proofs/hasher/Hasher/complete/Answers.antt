@@ -12,5 +12,5 @@ returns c =
     let e : c.output.result ≡ finished (running c.args.self) =
     c.output.ensures
     ∙ finish_all (running c.args.self) (running c.absorb.new.self) (running c.absorb-2.new.self) _ _
-    (marker _ _ (omega arith) (omega arith)) c.to-be-bytes.ensures c.absorb.ensures.after c.absorb-2.ensures.after in
+    (marker _ _ (omega arith) (omega arith)) c.to_be_bytes.ensures c.absorb.ensures.after c.absorb-2.ensures.after in
     record { value = e; law = λ m a. e ∙ ap finished a ∙ comes_to_digest m }
