@@ -5,27 +5,27 @@ use Rattle.base64_text.proofs.decoding.write_bytes.Goals as goal
 pub loop-rest-init : goal.loop-rest-init
 loop-rest-init c = left-found _ c.args.out.now c.requires
 
-pub returns-in-default-group-of : goal.returns-in-default-group-of
-returns-in-default-group-of c =
+pub returns-in_default-group_of : goal.returns-in_default-group_of
+returns-in_default-group_of c =
     let h : 4 ≤ length c.loop-rest.rest.now = search rules in
-    absurd (not_read c.loop-rest.rest.now c.is-empty.result h c.is-empty.ensures c.in-default-group-of.ensures.bytes c.loop-rest.invariant.0)
+    absurd (not_read c.loop-rest.rest.now c.is_empty.result h c.is_empty.ensures c.in_default-group_of.ensures.bytes c.loop-rest.invariant.0)
 
-pub slice-bounds-copy-from-slice-end : goal.slice-bounds-copy-from-slice-end
-slice-bounds-copy-from-slice-end c =
+pub slice_bounds-copy_from_slice-end : goal.slice_bounds-copy_from_slice-end
+slice_bounds-copy_from_slice-end c =
     let l : length c.in-Some.group.bytes ≡ 3 = omega arith in
     let h : 4 ≤ length c.loop-rest.rest.now = search rules in
     let r : c.loop-rest.at + c.in-Some.group.count ≤ length c.loop-rest.out =
     bytes_room c.loop-rest.rest.now c.in-Some.group.bytes c.loop-rest.out _ c.loop-rest.at c.in-Some.group.count
-    c.is-empty.result h c.is-empty.ensures c.in-Some.ensures.bytes l c.in-Some.ensures.small c.loop-rest.invariant in
+    c.is_empty.result h c.is_empty.ensures c.in-Some.ensures.bytes l c.in-Some.ensures.small c.loop-rest.invariant in
     search rules
 
 pub loop-rest-preserved : goal.loop-rest-preserved
 loop-rest-preserved c =
     let l : length c.in-Some.group.bytes ≡ 3 = omega arith in
     let h : 4 ≤ length c.loop-rest.rest.now = search rules in
-    bytes-more c.loop-rest.rest.now c.in-Some.group.bytes c.loop-rest.out c.copy-from-slice.new.self _ c.loop-rest.at
-    c.in-Some.group.count c.is-empty.result h c.is-empty.ensures c.in-Some.ensures.bytes l c.in-Some.ensures.small
-    c.copy-from-slice.ensures.after c.loop-rest.invariant
+    bytes-more c.loop-rest.rest.now c.in-Some.group.bytes c.loop-rest.out c.copy_from_slice.new.self _ c.loop-rest.at
+    c.in-Some.group.count c.is_empty.result h c.is_empty.ensures c.in-Some.ensures.bytes l c.in-Some.ensures.small
+    c.copy_from_slice.ensures.after c.loop-rest.invariant
 
 pub returns : goal.returns
 returns c =

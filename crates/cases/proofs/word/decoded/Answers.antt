@@ -3,14 +3,14 @@ use Rattle.cases.specs.Hex.{decoded}
 use Rattle.cases.proofs.Decoding.{onto, goes_on, stops, lone, done, none_made, refused_by}
 use Rattle.cases.proofs.word.decoded.Goals as goal
 
-pub returns-in-err-byte : goal.returns-in-err-byte
-returns-in-err-byte c =
-    let h = c.from-residual.ensures in
-    let e = sym c.byte.ensures ∙ c.in-err-byte.was in
-    let stop = stops (vec_items c.loop-rest.out) c.loop-rest.rest.now c.in-err-byte.field-0.0 c.loop-rest-test.true e in
+pub returns-in_err-byte : goal.returns-in_err-byte
+returns-in_err-byte c =
+    let h = c.from_residual.ensures in
+    let e = sym c.byte.ensures ∙ c.in_err-byte.was in
+    let stop = stops (vec_items c.loop-rest.out) c.loop-rest.rest.now c.in_err-byte.field-0.0 c.loop-rest-test.true e in
     record {
-      bytes = none_made c.from-residual.result _ h.0;
-      fault = refused_by c.from-residual.result _ _ h.1 (λ f q. inr (c.loop-rest.invariant ∙ stop ∙ ap Err (sym q)));
+      bytes = none_made c.from_residual.result _ h.0;
+      fault = refused_by c.from_residual.result _ _ h.1 (λ f q. inr (c.loop-rest.invariant ∙ stop ∙ ap Err (sym q)));
     }
 
 pub loop-rest-preserved : goal.loop-rest-preserved

@@ -7,11 +7,11 @@ use Rattle.commands.proofs.writer.write_upload.Goals as goal
 pub returns : goal.returns
 returns c =
     let x = c.args in
-    let d = c.write-decimal-count in
-    let n : c.write-decimal-count.result - 0 ≡ c.write-decimal-count.result = omega arith in
-    let s : take (c.write-decimal-count.result - 0) c.write-decimal-count.new.out ≡ decimal c.args.size = rw n (d.ensures.front ∙ ap decimal c.from.ensures) in
-    let f : c.is-some-formed.result ≡ is_some (digest_of c.args.digest.now) = c.is-some-formed.ensures ∙ ap is_some c.digest.ensures in
+    let d = c.write_decimal-count in
+    let n : c.write_decimal-count.result - 0 ≡ c.write_decimal-count.result = omega arith in
+    let s : take (c.write_decimal-count.result - 0) c.write_decimal-count.new.out ≡ decimal c.args.size = rw n (d.ensures.front ∙ ap decimal c.from.ensures) in
+    let f : c.is_some-formed.result ≡ is_some (digest_of c.args.digest.now) = c.is_some-formed.ensures ∙ ap is_some c.digest.ensures in
     record {
-      answer = as_told (λ t b. writing (x.word.now ∷ x.name.now ∷ t ∷ x.digest.now ∷ []) b (length x.out.now)) _ _ _ _ _ s f c.write-four.ensures.answer;
-      output = as_told (λ t b. buffer_after (x.word.now ∷ x.name.now ∷ t ∷ x.digest.now ∷ []) b x.out.now) _ _ _ _ _ s f c.write-four.ensures.output;
+      answer = as_told (λ t b. writing (x.word.now ∷ x.name.now ∷ t ∷ x.digest.now ∷ []) b (length x.out.now)) _ _ _ _ _ s f c.write_four.ensures.answer;
+      output = as_told (λ t b. buffer_after (x.word.now ∷ x.name.now ∷ t ∷ x.digest.now ∷ []) b x.out.now) _ _ _ _ _ s f c.write_four.ensures.output;
     }

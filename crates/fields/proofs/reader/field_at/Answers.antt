@@ -4,8 +4,8 @@ use Rattle.fields.proofs.reader.field_at.Goals as goal
 
 pub returns-then-at-text : goal.returns-then-at-text
 returns-then-at-text c = record {
-  cuts = first_and_rest _ _ _ _ _ (cut_past c.args.text.now c.args.at c.if-at-text.true) c.cut-off.ensures.field c.cut-off.ensures.left;
-  ending = c.cut-off.ensures.ending;
+  cuts = first_and_rest _ _ _ _ _ (cut_past c.args.text.now c.args.at c.if-at-text.true) c.cut_off.ensures.field c.cut_off.ensures.left;
+  ending = c.cut_off.ensures.ending;
 }
 
 pub loop-end-init : goal.loop-end-init
@@ -13,7 +13,7 @@ loop-end-init c = (omega arith, c.if-at-text.false, begun-none c.args.text.now c
 
 pub returns-then-text-end-eq10 : goal.returns-then-text-end-eq10
 returns-then-text-end-eq10 c =
-    let f = c.cut-off-then-text-end-eq10.ensures in
+    let f = c.cut_off-then-text-end-eq10.ensures in
     record {
       cuts = first_and_rest _ _ _ _ _
           (cut_here c.args.text.now c.args.at c.loop-end.end c.loop-end.invariant.0 c.loop-end-test.true c.if-text-end-eq10.true c.loop-end.invariant.2)
@@ -30,7 +30,7 @@ loop-end-preserved c = (
 
 pub returns : goal.returns
 returns c =
-    let f = c.cut-off-2.ensures in
+    let f = c.cut_off-2.ensures in
     record {
       cuts = first_and_rest _ _ _ _ _
           (cut_last c.args.text.now c.args.at c.loop-end.end c.loop-end.invariant.0 c.loop-end.invariant.1 c.loop-end-test.false c.loop-end.invariant.2)

@@ -5,7 +5,7 @@ use Rattle.fields.proofs.writer.write_any.Goals as goal
 pub returns-then-fields-gt0 : goal.returns-then-fields-gt0
 returns-then-fields-gt0 c =
     let e = by_first c.args.fields.now (omega arith) in
-    record { answer = rw e c.write-some.ensures.answer; output = rw e c.write-some.ensures.output }
+    record { answer = rw e c.write_some.ensures.answer; output = rw e c.write_some.ensures.output }
 
 pub returns-then-not-formed : goal.returns-then-not-formed
 returns-then-not-formed c =

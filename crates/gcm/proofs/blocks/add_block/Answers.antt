@@ -7,7 +7,7 @@ use Rattle.gcm.proofs.blocks.add_block.Goals as goal
 pub returns : goal.returns
 returns c =
     let b = c.args.block in
-    let h : c.to-be-bytes-high.result ≡ be8 (b / 2 ^ 64) = c.to-be-bytes-high.ensures in
-    let l : c.to-be-bytes-low.result ≡ be8 (b % 2 ^ 64) = c.to-be-bytes-low.ensures ∙ ap be8 (and_mask b 64) in
-    both_halves c.args.part.now c.add-half.new.part c.add-half-2.new.part c.to-be-bytes-high.result c.to-be-bytes-low.result
-    (block_bytes b) c.requires (ap length h) (ap length l) (ap₂ (λ (x y : List ℕ). x ++ y) h l ∙ halves b) c.add-half.ensures c.add-half-2.ensures
+    let h : c.to_be_bytes-high.result ≡ be8 (b / 2 ^ 64) = c.to_be_bytes-high.ensures in
+    let l : c.to_be_bytes-low.result ≡ be8 (b % 2 ^ 64) = c.to_be_bytes-low.ensures ∙ ap be8 (and_mask b 64) in
+    both_halves c.args.part.now c.add_half.new.part c.add_half-2.new.part c.to_be_bytes-high.result c.to_be_bytes-low.result
+    (block_bytes b) c.requires (ap length h) (ap length l) (ap₂ (λ (x y : List ℕ). x ++ y) h l ∙ halves b) c.add_half.ensures c.add_half-2.ensures

@@ -21,9 +21,9 @@ loop-k-preserved c =
       λ j le. let ne : j ≢ k = omega arith in get_or-set_other b k j x 0 ne ∙ c.loop-k.invariant.2 j (omega arith),
     )
 
-read : (c : goal.After-from-be-bytes) → c.from-be-bytes.result ≡ number c.loop-k.buf
+read : (c : goal.After-from_be_bytes) → c.from_be_bytes.result ≡ number c.loop-k.buf
 unfolding number
-read c = c.from-be-bytes.ensures
+read c = c.from_be_bytes.ensures
 
 pub returns : goal.returns
 unfolding block_at

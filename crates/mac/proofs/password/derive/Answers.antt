@@ -13,7 +13,7 @@ pub loop-j-preserved : goal.loop-j-preserved
 loop-j-preserved c =
     let u = iterated_more _ _ _ c.loop-j.auto.j _ _ c.loop-j.invariant.0
     (c.finish-last-in-loop-j.ensures.law _ _ (c.update-in-loop-j.ensures.law _ _ c.new-keyed.ensures.law)) in
-    (u, folded_more _ _ _ c.loop-j.auto.j _ _ _ c.loop-j.invariant.1 u c.xor-into.ensures, omega arith, omega arith)
+    (u, folded_more _ _ _ c.loop-j.auto.j _ _ _ c.loop-j.invariant.1 u c.xor_into.ensures, omega arith, omega arith)
 
 pub returns : goal.returns
 unfolding pbkdf2

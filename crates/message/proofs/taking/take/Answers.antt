@@ -18,32 +18,32 @@ returns-then-text-lt4096 g c =
       back = back (g.S.Seal.sealing k) (g.S.Seal.opening k) (g.met.S.Seal.reopens k) (g.met.S.Seal.level k) (g.met.S.Seal.twelve k) _ _ _ _ _ _ a t;
     }
 
-pub returns-in-err-admitted : goal.returns-in-err-admitted
-returns-in-err-admitted g c =
+pub returns-in_err-admitted : goal.returns-in_err-admitted
+returns-in_err-admitted g c =
     let x = c.args in
     let k = x.seal.now in
     let w = received-by_admitted (g.S.Seal.opening k) x.expected.now x.last x.message.now x.text.now _ c.if-text-lt4096.false
-    c.in-err-admitted.ensures.value in
-    let p = err_from_is_err_and c.from-residual.result c.from-residual.ensures.1 in
-    let a : c.from-residual.result ≡ told (received (g.S.Seal.opening k) x.expected.now x.last x.message.now x.text.now) =
+    c.in_err-admitted.ensures.value in
+    let p = err_from_is_err_and c.from_residual.result c.from_residual.ensures.1 in
+    let a : c.from_residual.result ≡ told (received (g.S.Seal.opening k) x.expected.now x.last x.message.now x.text.now) =
     rw (p.1, p.2, w) in
     let t = sym (ap (λ z. text_after z x.text.now) w) in
     record { answer = a; text = t; back = back (g.S.Seal.sealing k) (g.S.Seal.opening k) (g.met.S.Seal.reopens k) (g.met.S.Seal.level k) (g.met.S.Seal.twelve k) _ _ _ _ _ _ a t }
 
-pub returns-then-not-open-part : goal.returns-then-not-open-part
-returns-then-not-open-part g c =
+pub returns-then-not-open_part : goal.returns-then-not-open_part
+returns-then-not-open_part g c =
     let x = c.args in
     let k = x.seal.now in
     let o = g.S.Seal.opening k in
     let m = x.message.now in
-    let d = c.in-ok-admitted.admitted in
-    let w = received-by_admitted o x.expected.now x.last m x.text.now (Ok d) c.if-text-lt4096.false c.in-ok-admitted.ensures.value in
-    let b = c.in-ok-admitted.ensures.bounds in
+    let d = c.in_ok-admitted.admitted in
+    let w = received-by_admitted o x.expected.now x.last m x.text.now (Ok d) c.if-text-lt4096.false c.in_ok-admitted.ensures.value in
+    let b = c.in_ok-admitted.ensures.bounds in
     let n : d.end - 28 ≤ length x.text.now = omega arith in
     let q = not_opened d (opens o m d.end) _ x.text.now (opens-length o m d.end b.0 b.1 (g.met.S.Seal.leveled k)) n
-    (sym c.if-not-open-part.ensures.told) in
+    (sym c.if-not-open_part.ensures.told) in
     let a = sym (ap told (w ∙ q.0)) in
-    let t = c.open-part.ensures.text ∙ q.1 ∙ sym (ap (λ z. text_after z x.text.now) (w ∙ q.0)) in
+    let t = c.open_part.ensures.text ∙ q.1 ∙ sym (ap (λ z. text_after z x.text.now) (w ∙ q.0)) in
     record { answer = a; text = t; back = back (g.S.Seal.sealing k) (g.S.Seal.opening k) (g.met.S.Seal.reopens k) (g.met.S.Seal.level k) (g.met.S.Seal.twelve k) _ _ _ _ _ _ a t }
 
 pub returns : goal.returns
@@ -52,11 +52,11 @@ returns g c =
     let k = x.seal.now in
     let o = g.S.Seal.opening k in
     let m = x.message.now in
-    let d = c.in-ok-admitted.admitted in
-    let w = received-by_admitted o x.expected.now x.last m x.text.now (Ok d) c.if-text-lt4096.false c.in-ok-admitted.ensures.value in
-    let b = c.in-ok-admitted.ensures.bounds in
+    let d = c.in_ok-admitted.admitted in
+    let w = received-by_admitted o x.expected.now x.last m x.text.now (Ok d) c.if-text-lt4096.false c.in_ok-admitted.ensures.value in
+    let b = c.in_ok-admitted.ensures.bounds in
     let q = opened d (opens o m d.end) (d.end - 28) x.text.now (opens-length o m d.end b.0 b.1 (g.met.S.Seal.leveled k))
-    (sym c.if-not-open-part.ensures.told) in
+    (sym c.if-not-open_part.ensures.told) in
     let a = sym (ap told w ∙ q.0) in
-    let t = c.open-part.ensures.text ∙ q.1 ∙ sym (ap (λ z. text_after z x.text.now) w) in
+    let t = c.open_part.ensures.text ∙ q.1 ∙ sym (ap (λ z. text_after z x.text.now) w) in
     record { answer = a; text = t; back = back (g.S.Seal.sealing k) (g.S.Seal.opening k) (g.met.S.Seal.reopens k) (g.met.S.Seal.level k) (g.met.S.Seal.twelve k) _ _ _ _ _ _ a t }

@@ -2,10 +2,10 @@ use Rattle.std.proofs.Common.{◌≡◌, ℕ, List, ◌++◌, length, refl, ◌�
 use Rattle.message.proofs.Laying.{over}
 use Rattle.message.proofs.writing.joined.Goals as goal
 
-pub slice-bounds-trailer-end-2 : goal.slice-bounds-trailer-end-2
-slice-bounds-trailer-end-2 c = simp length-append (omega arith)
+pub slice_bounds-trailer-end-2 : goal.slice_bounds-trailer-end-2
+slice_bounds-trailer-end-2 c = simp length-append (omega arith)
 
 pub returns : goal.returns
 returns c =
-    over c.copy-from-slice.new.self c.copy-from-slice-2.new.self _ 91 16 c.copy-from-slice.ensures.len
-    ∙ ap₂ (λ (a b : List ℕ). a ++ b) c.copy-from-slice.ensures.after (append-nil c.copy-from-slice-2.new.self ∙ c.copy-from-slice-2.ensures.after)
+    over c.copy_from_slice.new.self c.copy_from_slice-2.new.self _ 91 16 c.copy_from_slice.ensures.len
+    ∙ ap₂ (λ (a b : List ℕ). a ++ b) c.copy_from_slice.ensures.after (append-nil c.copy_from_slice-2.new.self ∙ c.copy_from_slice-2.ensures.after)

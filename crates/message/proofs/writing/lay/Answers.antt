@@ -9,22 +9,22 @@ returns-then-out-lt4124 g c =
     let w = no_room (g.S.Seal.sealing x.seal.now) x.code x.number x.random.now x.payload.now x.after.now x.out.now c.if-out-lt4124.true in
     record { answer = ap (λ (z : Written). z.answer) (sym w); output = ap (λ (z : Written). z.output) (sym w) }
 
-pub returns-then-not-fits-one : goal.returns-then-not-fits-one
-returns-then-not-fits-one g c =
+pub returns-then-not-fits_one : goal.returns-then-not-fits_one
+returns-then-not-fits_one g c =
     let x = c.args in
-    let w = too_long (g.S.Seal.sealing x.seal.now) x.code x.number x.random.now x.payload.now x.after.now x.out.now c.if-out-lt4124.false (sym c.if-not-fits-one.ensures) in
+    let w = too_long (g.S.Seal.sealing x.seal.now) x.code x.number x.random.now x.payload.now x.after.now x.out.now c.if-out-lt4124.false (sym c.if-not-fits_one.ensures) in
     record { answer = ap (λ (z : Written). z.answer) (sym w); output = ap (λ (z : Written). z.output) (sym w) }
 
 pub returns : goal.returns
 returns g c =
     let x = c.args in
     let s = g.S.Seal.sealing x.seal.now in
-    let fit = sym c.if-not-fits-one.ensures in
+    let fit = sym c.if-not-fits_one.ensures in
     let w = goes s x.code x.number x.random.now x.payload.now x.after.now x.out.now c.if-out-lt4124.false fit in
     record {
       answer = ap (λ (z : Written). z.answer) (sym w);
       output = wrote s x.code x.number x.random.now x.payload.now x.after.now x.out.now _ _ _ _ _ _ _ c.if-out-lt4124.false fit
-          c.write-header.ensures c.copy-from-slice.ensures.after c.copy-from-slice-2.ensures.after c.copy-from-slice-4.ensures.after
+          c.write-header.ensures c.copy_from_slice.ensures.after c.copy_from_slice-2.ensures.after c.copy_from_slice-4.ensures.after
           (g.met.S.Seal.level x.seal.now) (g.met.S.Seal.twelve x.seal.now)
-          c.seal-tag.ensures.body c.seal-tag.ensures.tag c.copy-from-slice-3.ensures.after;
+          c.seal-tag.ensures.body c.seal-tag.ensures.tag c.copy_from_slice-3.ensures.after;
     }

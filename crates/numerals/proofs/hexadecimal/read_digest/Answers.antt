@@ -2,26 +2,26 @@ use Rattle.std.proofs.Common.{length, sym, refl, ◌∙◌, arith, length-set, e
 use Rattle.numerals.proofs.Characters.{not_sized, read_none, read_more, read_stops, read_done}
 use Rattle.numerals.proofs.hexadecimal.read_digest.Goals as goal
 
-pub returns-then-not-is-sized : goal.returns-then-not-is-sized
-returns-then-not-is-sized c = not_sized c.args.text.now (sym c.if-not-is-sized.ensures)
+pub returns-then-not-is_sized : goal.returns-then-not-is_sized
+returns-then-not-is_sized c = not_sized c.args.text.now (sym c.if-not-is_sized.ensures)
 
 pub loop-i-init : goal.loop-i-init
-loop-i-init c = (refl, read_none c.args.text.now (sym c.if-not-is-sized.ensures))
+loop-i-init c = (refl, read_none c.args.text.now (sym c.if-not-is_sized.ensures))
 
-pub returns-in-err-bytes : goal.returns-in-err-bytes
-returns-in-err-bytes c =
-    let l = eqb-true (length c.args.text.now) 64 (sym c.if-not-is-sized.ensures) in
-    c.from-residual.ensures
-    ∙ read_stops c.args.text.now c.loop-i.bytes c.loop-i.i _ (omega arith) c.in-err-bytes.ensures c.loop-i.invariant.1
+pub returns-in_err-bytes : goal.returns-in_err-bytes
+returns-in_err-bytes c =
+    let l = eqb-true (length c.args.text.now) 64 (sym c.if-not-is_sized.ensures) in
+    c.from_residual.ensures
+    ∙ read_stops c.args.text.now c.loop-i.bytes c.loop-i.i _ (omega arith) c.in_err-bytes.ensures c.loop-i.invariant.1
 
 pub loop-i-preserved : goal.loop-i-preserved
 loop-i-preserved c =
-    let l = eqb-true (length c.args.text.now) 64 (sym c.if-not-is-sized.ensures) in (
+    let l = eqb-true (length c.args.text.now) 64 (sym c.if-not-is_sized.ensures) in (
       simp length-set c.loop-i.invariant.0,
-      read_more c.args.text.now c.loop-i.bytes c.loop-i.i _ _ (omega arith) (omega arith) c.in-ok-bytes.ensures c.loop-i.invariant.1,
+      read_more c.args.text.now c.loop-i.bytes c.loop-i.i _ _ (omega arith) (omega arith) c.in_ok-bytes.ensures c.loop-i.invariant.1,
     )
 
 pub returns : goal.returns
 returns c =
-    let l = eqb-true (length c.args.text.now) 64 (sym c.if-not-is-sized.ensures) in
+    let l = eqb-true (length c.args.text.now) 64 (sym c.if-not-is_sized.ensures) in
     read_done c.args.text.now c.loop-i.bytes c.loop-i.i _ (omega arith) (omega arith) c.loop-i.invariant.1

@@ -6,10 +6,10 @@ use Rattle.payloads.proofs.writer.write_receipt.Goals as goal
 pub returns : goal.returns
 returns c =
     let x = c.args in
-    let d = c.write-decimal-count in
-    let n : c.write-decimal-count.result - 0 ≡ c.write-decimal-count.result = omega arith in
-    let s : take (c.write-decimal-count.result - 0) c.write-decimal-count.new.out ≡ decimal c.args.size = rw n (d.ensures.front ∙ ap decimal c.from.ensures) in
+    let d = c.write_decimal-count in
+    let n : c.write_decimal-count.result - 0 ≡ c.write_decimal-count.result = omega arith in
+    let s : take (c.write_decimal-count.result - 0) c.write_decimal-count.new.out ≡ decimal c.args.size = rw n (d.ensures.front ∙ ap decimal c.from.ensures) in
     record {
-      answer = as_told (λ t b. writing (x.digest.now ∷ t ∷ []) b (length x.out.now)) _ _ _ _ _ s refl c.write-two.ensures.answer;
-      output = as_told (λ t b. buffer_after (x.digest.now ∷ t ∷ []) b x.out.now) _ _ _ _ _ s refl c.write-two.ensures.output;
+      answer = as_told (λ t b. writing (x.digest.now ∷ t ∷ []) b (length x.out.now)) _ _ _ _ _ s refl c.write_two.ensures.answer;
+      output = as_told (λ t b. buffer_after (x.digest.now ∷ t ∷ []) b x.out.now) _ _ _ _ _ s refl c.write_two.ensures.output;
     }

@@ -13,6 +13,6 @@ returns c =
     let E = under c.args.self.now.aes in
     record {
       answer = room E c.args.iv.now c.args.body.now c.args.text.now c.if-n-text.false;
-      text = front E c.args.iv.now c.args.body.now c.args.text.now c.stream.new.text c.copy-from-slice.new.self _
-          c.if-n-text.false (omega arith) c.copy-from-slice.ensures.after c.stream.ensures;
+      text = front E c.args.iv.now c.args.body.now c.args.text.now c.stream.new.text c.copy_from_slice.new.self _
+          c.if-n-text.false (omega arith) c.copy_from_slice.ensures.after c.stream.ensures;
     }

@@ -15,7 +15,7 @@ pub returns : goal.returns
 unfolding tag_of counter block_bytes
 returns c =
     let E = under c.args.self.now.aes in
-    let mask : c.counter-block-mask.result ≡ E (counter c.args.iv.now 1) = cc c.counter-block-mask.ensures in
-    let hash : c.hash-all.result ≡ ghash (E 0) c.args.added.now c.args.body.now = cc (c.hash-all.ensures, c.args.self.now.tied) in
-    first (bit_xor c.counter-block-mask.result c.hash-all.result) c.to-be-bytes-full.result c.to-be-bytes-full.ensures
+    let mask : c.counter_block-mask.result ≡ E (counter c.args.iv.now 1) = cc c.counter_block-mask.ensures in
+    let hash : c.hash_all.result ≡ ghash (E 0) c.args.added.now c.args.body.now = cc (c.hash_all.ensures, c.args.self.now.tied) in
+    first (bit_xor c.counter_block-mask.result c.hash_all.result) c.to_be_bytes-full.result c.to_be_bytes-full.ensures
     ∙ ap₂ (λ (x y : ℕ). take 12 (block_bytes (bit_xor x y))) mask hash

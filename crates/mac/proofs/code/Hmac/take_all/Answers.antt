@@ -9,8 +9,8 @@ loop-part-init c k m a = rw append-nil a
 
 pub loop-part-preserved : goal.loop-part-preserved
 loop-part-preserved c k m a =
-    parts_more k m c.args.parts.now c.loop-part.part-index (coding c.take-in.new.self) _
-    c.loop-part-test.true (c.take-in.ensures.law _ _ (c.loop-part.invariant k m a))
+    parts_more k m c.args.parts.now c.loop-part.part-index (coding c.take_in.new.self) _
+    c.loop-part-test.true (c.take_in.ensures.law _ _ (c.loop-part.invariant k m a))
 
 pub returns : goal.returns
 returns c k m a =
