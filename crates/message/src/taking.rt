@@ -18,9 +18,9 @@ pub fn receive<S: Seal>(
     message: &[u8],
     text: &mut [u8],
 ) -> Result<Received, MessageRefusal>
-    ensures answer { result ≡ told (received (opening seal.now) expected.now last message.now text.old) }
-    ensures text { text.new ≡ text_after (received (opening seal.now) expected.now last message.now text.old) text.old }
-    ensures back { ReadsBack (sealing seal.now) expected.now last message.now text.old result text.new }
+    ensures answer { result ≡ told (received (S.opening seal.now) expected.now last message.now text.old) }
+    ensures text { text.new ≡ text_after (received (S.opening seal.now) expected.now last message.now text.old) text.old }
+    ensures back { ReadsBack (S.sealing seal.now) expected.now last message.now text.old result text.new }
 {
     take(seal, expected, last, message, text)
 }
@@ -41,8 +41,8 @@ fn admit(expected: &[Kind], last: u16, message: &[u8]) -> Result<Admitted, Messa
 fn open_part<S: Seal>(seal: &S, message: &[u8], end: usize, text: &mut [u8]) -> bool
     requires low { 28 ≤ end }
     requires high { end ≤ length message.now }
-    ensures told { result ≡ fits (opens (opening seal.now) message.now end) text.old }
-    ensures text { text.new ≡ placed (opens (opening seal.now) message.now end) text.old }
+    ensures told { result ≡ fits (opens (S.opening seal.now) message.now end) text.old }
+    ensures text { text.new ≡ placed (opens (S.opening seal.now) message.now end) text.old }
 {
     let mut header = [0u8; 16];
     header.copy_from_slice(&message[0..16]);
@@ -58,9 +58,9 @@ fn take<S: Seal>(
     message: &[u8],
     text: &mut [u8],
 ) -> Result<Received, MessageRefusal>
-    ensures answer { result ≡ told (received (opening seal.now) expected.now last message.now text.old) }
-    ensures text { text.new ≡ text_after (received (opening seal.now) expected.now last message.now text.old) text.old }
-    ensures back { ReadsBack (sealing seal.now) expected.now last message.now text.old result text.new }
+    ensures answer { result ≡ told (received (S.opening seal.now) expected.now last message.now text.old) }
+    ensures text { text.new ≡ text_after (received (S.opening seal.now) expected.now last message.now text.old) text.old }
+    ensures back { ReadsBack (S.sealing seal.now) expected.now last message.now text.old result text.new }
 {
     if text.len() < 4096 {
         return Err(MessageRefusal::Buffer);

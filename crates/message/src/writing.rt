@@ -18,8 +18,8 @@ pub fn write<S: Seal>(
     after: &[u8],
     out: &mut [u8],
 ) -> Result<usize, MessageRefusal>
-    ensures answer { result ≡ (written (sealing seal.now) (code kind) number random.now payload.now after.now out.old).answer }
-    ensures output { out.new ≡ (written (sealing seal.now) (code kind) number random.now payload.now after.now out.old).output }
+    ensures answer { result ≡ (written (S.sealing seal.now) (code kind) number random.now payload.now after.now out.old).answer }
+    ensures output { out.new ≡ (written (S.sealing seal.now) (code kind) number random.now payload.now after.now out.old).output }
 {
     let code = kind.code();
     lay(seal, code, number, random, payload, after, out)
@@ -40,8 +40,8 @@ fn lay<S: Seal>(
     after: &[u8],
     out: &mut [u8],
 ) -> Result<usize, MessageRefusal>
-    ensures answer { result ≡ (written (sealing seal.now) code number random.now payload.now after.now out.old).answer }
-    ensures output { out.new ≡ (written (sealing seal.now) code number random.now payload.now after.now out.old).output }
+    ensures answer { result ≡ (written (S.sealing seal.now) code number random.now payload.now after.now out.old).answer }
+    ensures output { out.new ≡ (written (S.sealing seal.now) code number random.now payload.now after.now out.old).output }
 {
     if out.len() < 4124 {
         return Err(MessageRefusal::Buffer);
