@@ -1,6 +1,6 @@
 -- Words and their bytes.
-use Rattle.std.proofs.Common.{◌≡◌, ℕ, ◌+◌, ◌*◌, ◌/◌, ◌%◌, ◌^◌, ◌<◌, sym, refl, ap, ◌∙◌, arith}
-use lib.Bits.{bit_xor, bit_or, xor_block, or_shifted_r, or_shifted, xor_lt}
+use Rattle.std.proofs.Common.{◌≡◌, ℕ, ◌+◌, ◌*◌, ◌/◌, ◌%◌, ◌^◌, ◌<◌, ap, ◌∙◌, arith}
+use lib.Bits.{bit_xor, bit_or, xor_block, or_shifted_r}
 use Rattle.aes.specs.Words.{word, byte0, byte1, byte2, byte3}
 
 pub byte0_lt : (w : ℕ) → byte0 w < 256

@@ -1,7 +1,6 @@
 -- One column of a round, by the mixed table and by the standard.
-use Rattle.std.proofs.Common.{◌≡◌, ℕ, ◌+◌, ◌*◌, ◌/◌, ◌%◌, ◌^◌, ◌<◌, sym, refl, ap, ◌∙◌, ap₂}
+use Rattle.std.proofs.Common.{◌≡◌, ℕ, ◌*◌, ◌/◌, ◌%◌, ◌<◌}
 use lib.Bits.{bit_xor, bit_or, xor_lt}
-use Rattle.sbox.specs.Field.{times}
 use Rattle.sbox.specs.Substitution.{sub_byte}
 use Rattle.aes.specs.Words.{word, byte0, byte1, byte2, byte3, sub_word}
 use Rattle.aes.specs.Cipher.{shifted, mix_column, mix_bytes, xor4}

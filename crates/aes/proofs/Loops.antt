@@ -1,10 +1,10 @@
 -- The steps of the loops: one round more, one word more.
-use Rattle.std.proofs.Common.{◌≡◌, ℕ, zero, suc, ◌+◌, ◌-◌, ◌*◌, ◌^◌, ◌<◌, ◌≤◌, List, [], ◌∷◌, ◌++◌, length, get_or, take, set, sym, refl, ap, ◌∙◌, ap₂, arith}
+use Rattle.std.proofs.Common.{◌≡◌, ℕ, zero, suc, ◌+◌, ◌-◌, ◌*◌, ◌^◌, ◌<◌, ◌≤◌, List, length, get_or, take, set, sym, ap, ◌∙◌, arith}
 use lib.Bits.{bit_xor, bit_or, or_shifted}
-use Rattle.std.proofs.lemmas.List.{take_more_set, length-take-le, get_or-take, length-append, length_push, take_all}
+use Rattle.std.proofs.lemmas.List.{take_more_set, length-take-le, get_or-take}
 use Rattle.aes.specs.declared.state.State.{State}
 use Rattle.aes.specs.Words.{temp, grown, expand, key_words, word}
-use Rattle.aes.specs.Cipher.{rounds, one_round, store}
+use Rattle.aes.specs.Cipher.{rounds, one_round}
 
 pub rounds-more : (ws : List ℕ) (r : ℕ) (s : State) → 1 ≤ r → rounds ws (r + 1 - 1) s ≡ one_round ws r (rounds ws (r - 1) s)
 unfolding rounds

@@ -1,6 +1,6 @@
 -- The rule of the table of mixed bytes, at all of its 256 entries by one test that the checker computes, and the bounds of
 -- substitutes and their products.
-use Rattle.std.proofs.Common.{◌≡◌, ℕ, ◌<◌, Bool, T, eqb, ltb, List, [], ◌∷◌, length, get_or, eqb→eq, ltb→lt}
+use Rattle.std.proofs.Common.{◌≡◌, ℕ, ◌<◌, Bool, T, eqb, ltb, List, [], ◌∷◌, get_or, eqb→eq, ltb→lt}
 use Rattle.sbox.specs.Field.{times, times_bits, xtime}
 use Rattle.sbox.specs.Substitution.{sub_byte, affine, inverse, powers, square, turned}
 use Rattle.sbox.proofs.Rule.{table, rule}

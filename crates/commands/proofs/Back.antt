@@ -1,8 +1,8 @@
 -- Commands read back from their texts.
-use Rattle.std.proofs.Common.{◌≡◌, ℕ, ◌^◌, ◌<◌, ◌≤◌, Bool, true, false, cond, List, [], ◌∷◌, length, is_some, Some, None, Ok, Err, decimal, Option, Result, sym, refl, ap, ◌∙◌, subst, arith}
+use Rattle.std.proofs.Common.{◌≡◌, ℕ, ◌^◌, ◌<◌, true, List, [], ◌∷◌, length, is_some, Some, Ok, Result, sym, refl, ap, ◌∙◌, subst, arith}
 use Rattle.std.specs.Option.{ok_or}
-use Rattle.fields.specs.Cuts.{Piece, cut, placed, fields, joined, all_unbroken}
-use Rattle.fields.specs.Takes.{wrong, shown, and_then, taken, ended}
+use Rattle.fields.specs.Cuts.{cut, placed, joined, all_unbroken}
+use Rattle.fields.specs.Takes.{shown, and_then, ended}
 use Rattle.fields.specs.declared.refusal.WrongField.{WrongField}
 use Rattle.fields.proofs.Joins.{cut_of_joined, joined_of_cut}
 use Rattle.fields.proofs.Ends.{err_not_ok, same_ok, shown_ok, and_then_ok, ok_or_ok, some_value}

@@ -1,5 +1,5 @@
 -- Commands, their texts, and what a text is read as.
-use Rattle.std.specs.Prelude.{◌≡◌, ℕ, ◌^◌, ◌<◌, Bool, true, false, List, [], ◌∷◌, length, is_some, Ok, decimal, Result}
+use Rattle.std.specs.Prelude.{◌≡◌, ℕ, ◌^◌, ◌<◌, Bool, true, List, [], ◌∷◌, length, is_some, Ok, decimal, Result}
 use Rattle.fields.specs.Cuts.{Piece, fields, joined, all_unbroken}
 use Rattle.fields.specs.Takes.{shown, and_then, must, taken, ended}
 use Rattle.fields.specs.declared.refusal.WrongField.{WrongField}

@@ -1,5 +1,5 @@
 -- A digest has 32 bytes.
-use Rattle.std.proofs.Common.{◌≡◌, ℕ, zero, suc, ◌+◌, ◌*◌, ◌/◌, List, [], ◌∷◌, length, refl, ap, ◌∙◌, arith, length-append}
+use Rattle.std.proofs.Common.{◌≡◌, ℕ, zero, suc, ◌*◌, ◌/◌, List, [], ◌∷◌, length, refl, ap, ◌∙◌, arith, length-append}
 use Rattle.digest.specs.Sha256.{initial, be4, compress, hashed, padded, output, sha256}
 
 eight : (m : List ℕ) (n : ℕ) → length (hashed initial m n) ≡ 8

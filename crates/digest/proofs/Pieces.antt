@@ -1,9 +1,8 @@
 -- A digest under way: pieces join, and it comes to SHA-256 of the message.
-use Rattle.std.proofs.Common.{◌≡◌, ℕ, zero, suc, ◌+◌, ◌-◌, ◌*◌, ◌/◌, ◌%◌, ◌^◌, ◌<◌, ◌≤◌, List, [], ◌∷◌, ◌++◌, length, take, drop, sym, refl, ap, ◌∙◌, append_assoc, append-nil, add-suc, mul-add, arith, length-append, length-drop, drop-drop}
-use native.Mathlib.Nat.{mod-add-mod}
+use Rattle.std.proofs.Common.{◌≡◌, ℕ, zero, suc, ◌+◌, ◌-◌, ◌*◌, ◌/◌, ◌%◌, ◌^◌, ◌<◌, ◌≤◌, List, [], ◌++◌, length, take, drop, sym, refl, ap, ◌∙◌, append_assoc, append-nil, arith, length-append, length-drop, drop-drop}
 use lib.Seq.{take-append-le, drop-append-le}
 use Rattle.digest.specs.Running.{Running, start, absorb, finished, Joins, ComesToDigest}
-use Rattle.digest.specs.Sha256.{block, hashed, compress, zeros, padding, padded, output, sha256}
+use Rattle.digest.specs.Sha256.{block, hashed, zeros, padding, padded, output, sha256}
 
 -- The blocks of a message stay what they are when bytes follow.
 hashed-front : (s m d : List ℕ) (n : ℕ) → 64 * n ≤ length m → hashed s (m ++ d) n ≡ hashed s m n

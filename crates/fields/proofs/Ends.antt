@@ -1,5 +1,5 @@
 -- What a result tells of the steps that it came from.
-use Rattle.std.proofs.Common.{◌≡◌, ℕ, Bool, true, false, is_some, Some, None, Ok, Err, Option, Result, refl, arith}
+use Rattle.std.proofs.Common.{◌≡◌, ℕ, true, is_some, Some, None, Ok, Err, Option, Result, refl, arith}
 use Rattle.std.specs.Option.{ok_or}
 use Rattle.fields.specs.Takes.{shown, and_then}
 

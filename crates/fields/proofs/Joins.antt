@@ -1,9 +1,9 @@
 -- Cutting and joining undo each other.
-use Rattle.std.proofs.Common.{◌≡◌, ℕ, ◌+◌, ◌-◌, Bool, true, false, cond, not, ◌&&◌, eqb, List, [], ◌∷◌, ◌++◌, length, drop, sym, refl, ap, ◌∙◌, append_assoc, arith}
+use Rattle.std.proofs.Common.{◌≡◌, ℕ, ◌+◌, ◌-◌, Bool, true, false, cond, not, eqb, List, [], ◌∷◌, ◌++◌, length, drop, sym, refl, ◌∙◌, append_assoc, arith}
 use Rattle.std.specs.List.{between, AllByRecursion as All}
 use Rattle.std.proofs.lemmas.List.{append-nil, drop_at, length-append, take_at}
 use Rattle.std.proofs.lemmas.Bool.{and_parts, not-true, eqb-true}
-use Rattle.fields.specs.Cuts.{onto, cut, led, joined, unbroken, all_unbroken, CutOfJoined, JoinedOfCut, Piece, placed, FieldsStand}
+use Rattle.fields.specs.Cuts.{onto, cut, led, joined, unbroken, all_unbroken, CutOfJoined, JoinedOfCut, placed, FieldsStand}
 use Rattle.fields.proofs.Steps.{glue, glue-none}
 
 -- A field without byte 10 before a text belongs to the text's first field.

@@ -1,6 +1,6 @@
 -- A text laid out from its fields.
-use Rattle.std.proofs.Common.{◌≡◌, ℕ, ◌+◌, ◌-◌, ◌<◌, ◌≤◌, Bool, true, false, cond, not, ◌&&◌, eqb, leb, List, [], ◌∷◌, ◌++◌, length, get_or, take, drop, set, Some, None, Ok, Err, Option, sym, refl, ap, ◌∙◌, append_assoc, arith, Bor}
-use borrow.Rule.Slice.PartMut.{put_mid, post_of}
+use Rattle.std.proofs.Common.{◌≡◌, ℕ, ◌+◌, ◌-◌, ◌<◌, ◌≤◌, Bool, true, false, cond, leb, List, [], ◌∷◌, ◌++◌, length, get_or, take, drop, set, Some, None, Ok, Err, sym, refl, ap, ◌∙◌, append_assoc, arith, Bor}
+use borrow.Rule.Slice.PartMut.{put_mid}
 use Rattle.octets.specs.Fronts.{at_front}
 use Rattle.std.proofs.lemmas.List.{append-nil, drop_more, drop_all, drop_at, drop-drop, drop-set-lt, length-append, length-drop, length-take, take-append-drop, take_at, take_more_set}
 use Rattle.std.proofs.lemmas.Slice.{drop-append-drop, first_rest}

@@ -1,5 +1,5 @@
 -- Fields taken from a text one by one, and a text written from fields.
-use Rattle.std.specs.Prelude.{ℕ, ◌+◌, Bool, true, false, cond, not, ◌&&◌, List, [], ◌∷◌, ◌++◌, map, length, drop, is_some, is_ok, Some, None, Ok, Err, Option, Result, ◌==◌, nat_le}
+use Rattle.std.specs.Prelude.{ℕ, Bool, cond, not, ◌&&◌, List, [], ◌∷◌, map, length, drop, is_some, is_ok, Some, None, Ok, Err, Option, Result, ◌==◌, nat_le}
 use Rattle.std.specs.Borrow.{Bor}
 use Rattle.octets.specs.Fronts.{at_front}
 use Rattle.std.specs.Option.{ok_or}

@@ -1,17 +1,17 @@
 -- Fragments are taken for a whole file exactly where they are the cut of one that is as announced.
-use Rattle.std.proofs.Common.{◌≡◌, ℕ, ◌+◌, ◌<◌, ◌≤◌, Bool, true, false, cond, not, ◌&&◌, List, [], ◌∷◌, ◌++◌, length, is_ok, Ok, Err, Result, sym, refl, ap, ◌∙◌, append-nil, arith, length-append}
-use Rattle.digest.specs.Running.{start, absorb, finished}
+use Rattle.std.proofs.Common.{◌≡◌, ℕ, ◌+◌, Bool, true, false, cond, not, ◌&&◌, List, [], ◌∷◌, ◌++◌, length, is_ok, Ok, Err, Result, sym, refl, ◌∙◌, append-nil, arith, length-append}
+use Rattle.digest.specs.Running.{absorb, finished}
 use Rattle.digest.specs.Sha256.{sha256}
 use Rattle.digest.proofs.Pieces.{joins, comes_to_digest}
 use Rattle.octets.specs.Equality.{same}
 use Rattle.octets.proofs.Agreement.{same_decides}
 use Rattle.fragments.specs.declared.refusal.FragmentRefusal.{FragmentRefusal}
 use Rattle.fragments.specs.declared.refusal.FragmentRefusal.TheVariants.{SizeRule, Digest}
-use Rattle.fragments.specs.Cuts.{joined, in_turn, cut}
-use Rattle.fragments.specs.Progresses.{Standing, begun, advanced, verdict, after}
+use Rattle.fragments.specs.Cuts.{joined, in_turn}
+use Rattle.fragments.specs.Progresses.{Standing, begun, advanced}
 use Rattle.fragments.specs.Rule.{fits}
 use Rattle.fragments.specs.Wholes.{taken, WholeAsAnnounced}
-use Rattle.fragments.proofs.Cutting.{both, last_fits, full_fits, cut_from_turn, one_way_to_cut}
+use Rattle.fragments.proofs.Cutting.{both, last_fits, cut_from_turn, one_way_to_cut}
 
 -- The verdict on the last fragment, by its two tests.
 abbrev ending : Bool → Result Bool FragmentRefusal

@@ -1,5 +1,5 @@
 -- How far a file has come in fragments.
-use Rattle.std.specs.Prelude.{ℕ, ◌+◌, Bool, true, false, cond, not, ◌&&◌, List, [], length, is_ok, Ok, Err, Result}
+use Rattle.std.specs.Prelude.{ℕ, ◌+◌, Bool, cond, not, ◌&&◌, List, length, is_ok, Ok, Err, Result}
 use Rattle.digest.specs.Running.{Running, start, absorb, finished}
 use Rattle.digest.specs.Stands.{running}
 use Rattle.octets.specs.Equality.{same}

@@ -1,9 +1,8 @@
 -- The laws of authenticated encryption.
-use Rattle.std.proofs.Common.{◌≡◌, ℕ, Bool, true, false, cond, List, [], length, Some, None, sym, refl, ap, ◌∙◌}
-use Rattle.octets.specs.Equality.{same}
+use Rattle.std.proofs.Common.{◌≡◌, ℕ, List, Some, refl, ap}
 use Rattle.octets.proofs.Agreement.{same_decides}
 use Rattle.gcm.specs.Blocks.{block_bytes}
-use Rattle.gcm.specs.Gcm.{gctr, encrypted, tag_of, decrypted, DecryptsWhatWasEncrypted, LengthsKept}
+use Rattle.gcm.specs.Gcm.{gctr, encrypted, tag_of, DecryptsWhatWasEncrypted, LengthsKept}
 use Rattle.gcm.proofs.Stream.{stream_twice, stream-length}
 
 twice : (E : ℕ → ℕ) (iv text : List ℕ) (first : ℕ) → gctr E iv first (gctr E iv first text) ≡ text

@@ -1,10 +1,10 @@
 -- Blocks read from bytes, and the steps of the hash.
-use Rattle.std.proofs.Common.{◌≡◌, ℕ, zero, suc, ◌+◌, ◌-◌, ◌*◌, ◌/◌, ◌%◌, ◌^◌, ◌<◌, ◌≤◌, List, [], ◌∷◌, length, get_or, take, drop, replicate, sym, refl, ap, ◌∙◌, ap₂, arith}
+use Rattle.std.proofs.Common.{◌≡◌, ℕ, zero, suc, ◌+◌, ◌*◌, ◌/◌, ◌%◌, ◌<◌, ◌≤◌, List, length, get_or, take, drop, replicate, sym, refl, ap, ◌∙◌, ap₂, arith}
 use lib.Bits.{bit_xor}
-use Rattle.std.proofs.lemmas.List.{get_or-take, get_or-drop, get_or_past}
+use Rattle.std.proofs.lemmas.List.{get_or-take}
 use Rattle.ghash.specs.Field.{product}
 use Rattle.gcm.specs.Blocks.{number, block_at, block_bytes}
-use Rattle.gcm.specs.Gcm.{absorb, blocks, counter, key_byte, stream}
+use Rattle.gcm.specs.Gcm.{absorb, counter, key_byte, stream}
 use Rattle.gcm.proofs.Stream.{partly, partly_more}
 use borrow.Rule.Slice.PartMut.{put_mid}
 

@@ -1,8 +1,8 @@
 -- Adding a stream to bytes: part by part, and twice.
-use Rattle.std.proofs.Common.{◌≡◌, ℕ, zero, suc, ◌+◌, ◌-◌, ◌<◌, ◌≤◌, List, [], ◌∷◌, ◌++◌, length, get_or, take, drop, set, sym, refl, ap, ◌∙◌, ap₂, suc-le-suc, add-zero, add-suc, zero-lt-suc, suc-add, zero-add, arith}
+use Rattle.std.proofs.Common.{◌≡◌, ℕ, zero, suc, ◌+◌, ◌<◌, ◌≤◌, List, [], ◌∷◌, ◌++◌, length, get_or, take, drop, set, sym, refl, ap, ◌∙◌, ap₂, suc-le-suc, add-zero, add-suc, zero-lt-suc, suc-add, zero-add, arith}
 use borrow.Rule.Slice.PartMut.{put_mid}
 use lib.Bits.{bit_xor, xor_assoc, xor_self, xor_zero_r}
-use Rattle.std.proofs.lemmas.List.{append_assoc, append-nil, length-take-le, length-take, length-append, take-append-drop, take_all, drop_all, take_at, drop_at, drop-drop, set_at, get_or_at, take_more, drop_more, drop-take, take-take}
+use Rattle.std.proofs.lemmas.List.{append_assoc, append-nil, length-take-le, length-take, take-append-drop, take_all, drop_all, take_at, drop_at, drop-drop, set_at, get_or_at, take_more, drop_more, drop-take, take-take}
 use Rattle.gcm.specs.Gcm.{stream}
 
 pub stream-length : (f : ℕ → ℕ) (p : ℕ) (xs : List ℕ) → length (stream f p xs) ≡ length xs

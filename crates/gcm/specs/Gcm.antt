@@ -1,5 +1,5 @@
 -- GCM (SP 800-38D) over a block cipher E, with an IV of 12 bytes and a tag of 12 bytes.
-use Rattle.std.specs.Prelude.{◌≡◌, ℕ, zero, suc, ◌+◌, ◌*◌, ◌/◌, ◌%◌, ◌^◌, Bool, cond, List, [], ◌∷◌, length, take, Some, None, Option, bit_xor, slice_index}
+use Rattle.std.specs.Prelude.{◌≡◌, ℕ, zero, suc, ◌+◌, ◌*◌, ◌/◌, ◌%◌, ◌^◌, cond, List, [], ◌∷◌, length, take, Some, None, Option, bit_xor, slice_index}
 use Rattle.ghash.specs.Field.{product}
 use Rattle.octets.specs.Equality.{same}
 use Rattle.gcm.specs.Blocks.{block_bytes, number, block_at}

@@ -1,11 +1,11 @@
 -- A product taken nibble by nibble.
-use mathlib.Core.Path.{◌≡◌, refl, sym, ap, ap₂, ◌∙◌}
-use Prim.Native.Nat.{ℕ, zero, suc, ◌+◌, ◌-◌, ◌*◌, ◌/◌, ◌%◌, ◌^◌, ◌≤◌, ◌<◌}
+use mathlib.Core.Path.{◌≡◌, sym, ap, ap₂, ◌∙◌}
+use Prim.Native.Nat.{ℕ, zero, suc, ◌+◌, ◌-◌, ◌*◌, ◌/◌, ◌%◌, ◌^◌, ◌<◌}
 use native.Mathlib.Nat.{zero-add, suc-add, add_comm}
 use native.Mathlib.Omega.{arith}
-use lib.Bits.{bit_xor, xor_assoc, xor_comm, xor_zero_r}
+use lib.Bits.{bit_xor, xor_assoc, xor_comm}
 use lib.Pow.{shr-shr}
-use Rattle.ghash.specs.Field.{halve, halves, pick, partial, product}
+use Rattle.ghash.specs.Field.{halve, halves, pick, partial}
 
 pub halves-add : (a b v : ℕ) → halves (a + b) v ≡ halves b (halves a v)
 unfolding halves

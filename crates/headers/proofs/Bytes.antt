@@ -1,11 +1,11 @@
 -- A header read and written.
-use Rattle.std.proofs.Common.{◌≡◌, ℕ, zero, suc, ◌+◌, ◌*◌, ◌/◌, ◌%◌, ◌^◌, ◌<◌, ◌≤◌, Bool, true, false, cond, ◌&&◌, ◌||◌, eqb, List, [], ◌∷◌, ◌++◌, length, get_or, take, drop, Ok, Err, Result, sym, refl, ap, ◌∙◌, arith, take_all, drop-cons, eqb-true}
+use Rattle.std.proofs.Common.{◌≡◌, ℕ, zero, suc, ◌+◌, ◌*◌, ◌≤◌, Bool, true, false, cond, ◌&&◌, eqb, List, [], ◌∷◌, ◌++◌, length, get_or, take, drop, Ok, Err, Result, sym, refl, ap, ◌∙◌, arith, take_all, drop-cons, eqb-true}
 use borrow.Author.Tests.{clash}
 use Rattle.std.proofs.lemmas.Bool.Decides.{nat_tests}
 use Rattle.kinds.specs.declared.refusal.MessageRefusal.{MessageRefusal}
 use Rattle.kinds.specs.declared.refusal.MessageRefusal.TheVariants.{Length, Version, Reserved}
 use Rattle.headers.specs.declared.header.Header.{Header}
-use Rattle.headers.specs.Headers.{field, high, low, header_bytes, header_of, length_fits, right_length, right_version, reserved_zero, headed, Sized, ReadsWhatWasWritten, WritesWhatWasRead}
+use Rattle.headers.specs.Headers.{field, high, low, header_bytes, header_of, length_fits, right_length, right_version, reserved_zero, ReadsWhatWasWritten, WritesWhatWasRead}
 
 -- The first n elements from place i on, one by one.
 abbrev elements : ℕ → ℕ → List ℕ → List ℕ

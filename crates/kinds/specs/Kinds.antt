@@ -1,5 +1,5 @@
 -- The kinds of messages, their codes, and the checks of a received message's type and number.
-use Rattle.std.specs.Prelude.{◌≡◌, ℕ, Bool, true, false, cond, not, ◌&&◌, ◌||◌, List, [], ◌∷◌, Some, None, Ok, Err, Option, Result, MatchOption, ◌==◌, ◌≢◌, nat_lt}
+use Rattle.std.specs.Prelude.{◌≡◌, ℕ, Bool, cond, not, ◌&&◌, ◌||◌, List, [], ◌∷◌, Some, None, Ok, Err, Option, Result, MatchOption, ◌==◌, ◌≢◌, nat_lt}
 use Rattle.kinds.specs.declared.kind.Kind.{Kind}
 use Rattle.kinds.specs.declared.kind.Kind.TheVariants.{LogIn, LogInResponse, Command, Response, UploadFragment, LastUploadFragment, UploadResponse, GoAhead, DownloadFragment, LastDownloadFragment}
 use Rattle.kinds.specs.declared.kind.End.{End}

@@ -1,9 +1,9 @@
 -- A code under way comes to HMAC-SHA-256, however the message was cut.
-use Rattle.std.proofs.Common.{◌≡◌, ℕ, zero, suc, ◌+◌, ◌<◌, ◌≤◌, List, [], ◌∷◌, ◌++◌, length, get_or, take, sym, refl, ap, ◌∙◌, append_assoc, append-nil, add-one, arith, take_all, Bor}
-use Rattle.digest.specs.Running.{Running, start, absorb, finished}
+use Rattle.std.proofs.Common.{◌≡◌, ℕ, zero, suc, ◌+◌, ◌<◌, List, [], ◌∷◌, ◌++◌, length, get_or, take, sym, ap, ◌∙◌, append_assoc, append-nil, add-one, arith, Bor}
+use Rattle.digest.specs.Running.{start}
 use Rattle.digest.proofs.Pieces.{joins, comes_to_digest}
 use Rattle.mac.specs.Codes.{Code, keyed, take_in, code, ComesToHmac, TakesTwice}
-use Rattle.mac.specs.Hmac.{inner_key, outer_key, hmac}
+use Rattle.mac.specs.Hmac.{inner_key, hmac}
 use Rattle.mac.specs.Parts.{joined}
 
 pub comes_to_hmac : ComesToHmac

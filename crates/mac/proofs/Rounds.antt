@@ -1,5 +1,5 @@
 -- The iterations of PBKDF2, counted from 1.
-use Rattle.std.proofs.Common.{◌≡◌, ℕ, suc, ◌+◌, ◌-◌, ◌≤◌, List, ap, ◌∙◌, arith}
+use Rattle.std.proofs.Common.{◌≡◌, ℕ, suc, ◌+◌, ◌-◌, ◌≤◌, List, ◌∙◌, arith}
 use Rattle.mac.specs.Hmac.{hmac}
 use Rattle.mac.specs.Pbkdf2.{xors, iterated, folded}
 

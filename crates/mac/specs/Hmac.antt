@@ -1,5 +1,5 @@
 -- HMAC-SHA-256 (RFC 2104) on lists of bytes.
-use Rattle.std.specs.Prelude.{ℕ, ◌-◌, cond, List, [], ◌∷◌, ◌++◌, map, length, replicate, bit_xor, nat_lt}
+use Rattle.std.specs.Prelude.{ℕ, ◌-◌, cond, List, ◌++◌, map, length, replicate, bit_xor, nat_lt}
 use Rattle.digest.specs.Sha256.{sha256}
 
 -- A key as a block of 64 bytes: a key longer than a block goes in by its digest, and zeros fill up.

@@ -7,7 +7,6 @@ use Rattle.kinds.specs.declared.refusal.MessageRefusal.TheVariants.{Length, Vers
 use Rattle.kinds.specs.Kinds.{trailer, found, numbered}
 use Rattle.headers.specs.declared.header.Header.{Header}
 use Rattle.headers.specs.Headers.{field, header_of, length_fits, right_length, right_version, reserved_zero, headed}
-use Rattle.message.specs.declared.receiving.Admitted.{Admitted}
 use Rattle.message.specs.Messages.{by_number, by_kind, by_header, admitted}
 
 module _ (e : List Kind) (last : ℕ) (m : List ℕ) where

@@ -1,19 +1,16 @@
 -- What is written is read back.
-use Rattle.std.proofs.Common.{◌≡◌, ℕ, ◌+◌, ◌-◌, ◌^◌, ◌<◌, ◌≤◌, Bool, true, false, cond, ◌&&◌, ◌||◌, eqb, ltb, leb, List, [], ◌∷◌, ◌++◌, length, take, drop, Some, None, Ok, Err, Option, Result, sym, refl, ap, ◌∙◌, append_assoc, arith, length-append, lt-ltb, eq-eqb, le-leb}
+use Rattle.std.proofs.Common.{◌≡◌, ℕ, ◌+◌, ◌-◌, ◌^◌, ◌<◌, ◌≤◌, true, List, ◌++◌, length, take, drop, Some, Ok, Result, sym, refl, ap, ◌∙◌, arith, length-append}
 use Rattle.std.proofs.lemmas.List.{take_at, drop_at, drop-drop}
 use Rattle.std.proofs.lemmas.Bool.Decides.{nat_tests}
 use Rattle.kinds.specs.declared.kind.Kind.{Kind}
 use Rattle.kinds.specs.declared.kind.Kind.TheVariants.{LogIn, LogInResponse, Command, Response, UploadFragment, LastUploadFragment, UploadResponse, GoAhead, DownloadFragment, LastDownloadFragment}
 use Rattle.kinds.specs.declared.refusal.MessageRefusal.{MessageRefusal}
-use Rattle.kinds.specs.Kinds.{code, trailer, found, acceptable, numbered}
-use Rattle.headers.specs.declared.header.Header.{Header}
+use Rattle.kinds.specs.Kinds.{code, trailer}
 use Rattle.headers.specs.Headers.{header_bytes, headed, length_fits, Sized}
 use Rattle.headers.proofs.Bytes.{reads}
-use Rattle.message.specs.declared.receiving.Admitted.{Admitted}
 use Rattle.message.specs.declared.receiving.Received.{Received}
 use Rattle.message.specs.Meaning.{Sealing, Opening}
-use Rattle.octets.specs.Fronts.{at_front}
-use Rattle.message.specs.Messages.{heading, message, Message, admitted, opens, by_admitted, by_opened, received, told, text_after}
+use Rattle.message.specs.Messages.{heading, message, admitted, opens, received, told, text_after}
 use Rattle.message.specs.Trip.{Proper, ReadsBack}
 use Rattle.message.proofs.Admission.{admitted-by_number}
 use Rattle.message.proofs.Opening.{received-by_admitted}

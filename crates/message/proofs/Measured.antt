@@ -1,9 +1,8 @@
 -- The length of a message.
-use Rattle.std.proofs.Common.{◌≡◌, ℕ, ◌+◌, List, [], ◌++◌, length, refl, ap, ◌∙◌, arith, length-append}
+use Rattle.std.proofs.Common.{◌≡◌, ◌+◌, [], ◌++◌, length, ◌∙◌, arith, length-append}
 use Rattle.headers.specs.Headers.{header_bytes}
-use Rattle.message.specs.Meaning.{Sealing}
 use Rattle.message.specs.Messages.{heading, message}
-use Rattle.message.specs.Lengths.{Keeps, LengthOfAMessage, LengthsWorked}
+use Rattle.message.specs.Lengths.{LengthOfAMessage, LengthsWorked}
 
 pub length_of : LengthOfAMessage
 unfolding message

@@ -1,15 +1,13 @@
 -- What a message past its checks opens to.
-use Rattle.std.proofs.Common.{◌≡◌, ℕ, ◌+◌, ◌-◌, ◌<◌, ◌≤◌, Bool, true, false, cond, leb, List, [], ◌∷◌, ◌++◌, length, take, drop, Some, None, Ok, Err, Option, Result, sym, refl, ap, ◌∙◌, arith, length-drop, length-take}
-use Rattle.std.proofs.lemmas.List.{take_at}
+use Rattle.std.proofs.Common.{◌≡◌, ℕ, ◌-◌, ◌<◌, ◌≤◌, true, false, List, length, Some, None, Ok, Err, Option, Result, sym, refl, ◌∙◌, arith, length-drop, length-take}
 use Rattle.std.proofs.lemmas.Bool.{le-leb, lt-leb, false≢true}
 use Rattle.kinds.specs.declared.kind.Kind.{Kind}
 use Rattle.kinds.specs.declared.refusal.MessageRefusal.{MessageRefusal}
 use Rattle.kinds.specs.declared.refusal.MessageRefusal.TheVariants.{Buffer, Unopened}
 use Rattle.message.specs.declared.receiving.Admitted.{Admitted}
-use Rattle.message.specs.declared.receiving.Received.{Received}
 use Rattle.message.specs.Meaning.{Opening}
-use Rattle.octets.specs.Fronts.{fits, placed, at_front}
-use Rattle.message.specs.Messages.{Message, admitted, opens, by_opened, by_admitted, received, told, text_after}
+use Rattle.octets.specs.Fronts.{fits, placed}
+use Rattle.message.specs.Messages.{admitted, opens, by_opened, by_admitted, received, told, text_after}
 
 module _ (o : Opening) (e : List Kind) (last : ℕ) (m old : List ℕ) where
   pub no_room : length old < 4096 → received o e last m old ≡ Err Buffer

@@ -1,9 +1,9 @@
 -- A message as bytes, written and received.
-use Rattle.std.specs.Prelude.{◌≡◌, ℕ, ◌+◌, ◌-◌, Bool, true, false, cond, List, [], ◌∷◌, ◌++◌, length, take, drop, Some, None, Ok, Err, Option, Result, nat_le}
+use Rattle.std.specs.Prelude.{ℕ, ◌+◌, ◌-◌, cond, List, ◌++◌, length, take, drop, Some, None, Ok, Err, Option, Result, nat_le}
 use Rattle.kinds.specs.declared.kind.Kind.{Kind}
 use Rattle.kinds.specs.declared.refusal.MessageRefusal.{MessageRefusal}
 use Rattle.kinds.specs.declared.refusal.MessageRefusal.TheVariants.{Buffer, Payload, Unopened}
-use Rattle.kinds.specs.Kinds.{code, trailer, found, numbered}
+use Rattle.kinds.specs.Kinds.{trailer, found, numbered}
 use Rattle.headers.specs.declared.header.Header.{Header}
 use Rattle.headers.specs.Headers.{header_bytes, headed}
 use Rattle.message.specs.declared.receiving.Admitted.{Admitted}

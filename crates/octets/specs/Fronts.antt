@@ -1,5 +1,5 @@
 -- Bytes at the front of a lent buffer.
-use Rattle.std.specs.Prelude.{ℕ, Bool, true, false, cond, List, ◌++◌, length, drop, Some, None, Option, nat_le}
+use Rattle.std.specs.Prelude.{ℕ, Bool, false, cond, List, ◌++◌, length, drop, Some, None, Option, nat_le}
 
 -- Bytes at the front of a buffer, whose rest stays.
 abbrev pub at_front : List ℕ → List ℕ → List ℕ

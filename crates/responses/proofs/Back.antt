@@ -1,5 +1,5 @@
 -- Responses read back from their texts.
-use Rattle.std.proofs.Common.{◌≡◌, ℕ, ◌^◌, ◌<◌, Bool, true, false, cond, List, [], ◌∷◌, is_some, Some, None, Ok, Err, Option, Result, refl, ap, arith}
+use Rattle.std.proofs.Common.{◌≡◌, ℕ, ◌^◌, ◌<◌, Bool, true, false, ◌∷◌, is_some, Some, Ok, Err, Result, refl, ap, arith}
 use Rattle.std.proofs.lemmas.Bool.{and_parts, false≢true}
 use Rattle.octets.specs.Equality.{same}
 use Rattle.fields.specs.Cuts.{placed, joined}
@@ -17,7 +17,7 @@ use Rattle.words.proofs.Told.{words_told}
 use Rattle.words.specs.declared.status.Tells.{Tells}
 use Rattle.words.specs.declared.status.Tells.TheVariants as t
 use Rattle.words.specs.Statuses.{status_text, granting, refusing, tells, granted}
-use Rattle.responses.specs.Replies.{Said, done, path, listing, file, refused, Reply, PlacedReply, Told, status_of, results, suits, reply_fields, formed, granted_told, told_of, reply_of, size_said, Writable}
+use Rattle.responses.specs.Replies.{Said, done, path, listing, file, refused, Reply, PlacedReply, Told, status_of, results, suits, reply_fields, granted_told, told_of, reply_of, size_said, Writable}
 
 -- Whether what is said grants the command.
 abbrev pub grants : Said → Bool

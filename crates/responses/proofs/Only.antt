@@ -1,11 +1,11 @@
 -- A text that is read as a response is that response's text.
-use Rattle.std.proofs.Common.{◌≡◌, ℕ, ◌^◌, ◌<◌, Bool, true, false, cond, ◌&&◌, List, [], ◌∷◌, length, is_some, Some, None, Ok, Err, decimal, Option, Result, sym, refl, ap, ◌∙◌, subst, arith}
+use Rattle.std.proofs.Common.{◌≡◌, ℕ, ◌^◌, ◌<◌, Bool, true, false, cond, List, [], ◌∷◌, length, is_some, Some, None, Ok, Result, sym, refl, ap, ◌∙◌, subst, arith}
 use Rattle.std.proofs.lemmas.Bool.{and_from}
 use Rattle.std.specs.Option.{ok_or}
 use Rattle.octets.specs.Equality.{same}
 use Rattle.octets.proofs.Agreement.{same_decides}
-use Rattle.fields.specs.Cuts.{Piece, cut, placed, joined, all_unbroken}
-use Rattle.fields.specs.Takes.{place, wrong, shown, and_then, taken, ended}
+use Rattle.fields.specs.Cuts.{cut, placed, joined, all_unbroken}
+use Rattle.fields.specs.Takes.{and_then, ended}
 use Rattle.fields.specs.declared.refusal.WrongField.{WrongField}
 use Rattle.fields.proofs.Joins.{joined_of_cut}
 use Rattle.fields.proofs.Ends.{err_not_ok, same_ok, and_then_ok, ok_or_ok}
@@ -20,7 +20,7 @@ use Rattle.words.specs.declared.status.Tells.{Tells}
 use Rattle.words.specs.declared.status.Tells.TheVariants as t
 use Rattle.words.specs.declared.status.Status.{Status}
 use Rattle.words.specs.Statuses.{status_text, granting, refusing, tells, granted}
-use Rattle.responses.specs.Replies.{Said, done, path, listing, file, refused, Reply, PlacedReply, Told, status_of, results, suits, reply_fields, formed, path_told, refusal_told, listing_told, file_told, granted_told, told_of, reply_from, reply_of, size_said, Writable}
+use Rattle.responses.specs.Replies.{Said, done, path, listing, file, refused, PlacedReply, Told, status_of, results, suits, reply_fields, path_told, refusal_told, listing_told, file_told, granted_told, told_of, reply_from, reply_of, size_said, Writable}
 use Rattle.responses.proofs.Back.{grants}
 
 -- The status that says so.

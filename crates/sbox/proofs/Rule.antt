@@ -5,7 +5,7 @@ use mathlib.Core.List.{List, [], ◌∷◌}
 use Prim.Native.Nat.{ℕ, ◌<◌, min}
 use native.Mathlib.Omega.{arith}
 use lib.Dec.{T, eqb, eqb→eq}
-use lib.ListN.{length, get_or}
+use lib.ListN.{get_or}
 use Rattle.sbox.specs.Field.{times, times_bits, xtime}
 use Rattle.sbox.specs.Substitution.{Inverse, sub_byte, affine, inverse, powers, square, turned}
 use Rattle.sbox.proofs.Tested.{every, at, all_below, below}

@@ -1,6 +1,6 @@
 -- The laws of both seals.
-use Rattle.std.specs.Prelude.{◌≡◌, ℕ, ◌≤◌, Bool, true, false, cond, List, [], ◌++◌, length, take, Some, None, Option, refl}
-use Rattle.std.proofs.Common.{sym, ap, ◌∙◌, arith, length-take-le}
+use Rattle.std.specs.Prelude.{◌≡◌, ℕ, Bool, true, false, cond, List, [], ◌++◌, length, Some, None, refl}
+use Rattle.std.proofs.Common.{ap, ◌∙◌, arith, length-take-le}
 use Rattle.digest.proofs.Lengths.{sha256-length}
 use Rattle.digest.specs.Sha256.{sha256}
 use Rattle.mac.specs.Hmac.{inner_key, outer_key, hmac}
@@ -8,7 +8,7 @@ use Rattle.octets.specs.Equality.{same}
 use Rattle.octets.proofs.Agreement.{same_decides}
 use Rattle.gcm.specs.Gcm.{gctr, decrypted}
 use Rattle.gcm.proofs.Law.{lengths-kept}
-use Rattle.seals.specs.Open.{open_tag, open_sealing, open_opening}
+use Rattle.seals.specs.Open.{open_tag, open_opening}
 
 told : (c : Bool) (x p : List ℕ) → cond c (Some x) None ≡ Some p → p ≡ x
 told true x p e = cc
@@ -19,6 +19,9 @@ leveled E iv added b t p e = ap length (told _ (gctr E iv 2 b) p e) ∙ (lengths
 
 pub reopens : (key session h p : List ℕ) → open_opening key session h p (open_tag key session h p) ≡ Some p
 reopens key session h p = let t = open_tag key session h p in rw ((same_decides t t).1 refl)
+
+pub open_leveled : (key session h b t p : List ℕ) → open_opening key session h b t ≡ Some p → length p ≡ length b
+open_leveled key session h b t p e = ap length (told (same t (open_tag key session h b)) b p e)
 
 hmac_length : (k m : List ℕ) → length (hmac k m) ≡ 32
 unfolding hmac

@@ -1,3 +1,3 @@
 pub mod Closed
-pub mod Open
 pub mod Laws
+pub mod Open

@@ -1,10 +1,9 @@
 // The open seal: payloads are authenticated and can be read by all.
-ghost use Rattle.std.specs.Prelude.{◌≡◌, ◌++◌, take, Some};
+ghost use Rattle.std.specs.Prelude.{◌≡◌, ◌++◌, take, Some, refl};
 ghost use Rattle.mac.specs.Hmac.{hmac};
 ghost use Rattle.octets.specs.Fronts.{fits, placed};
 ghost use Rattle.seals.specs.Open.{open_tag, open_sealing, open_opening};
 ghost use Rattle.seals.specs.Laws;
-ghost use Rattle.std.proofs.Common.{rules};
 
 use mac::Hmac;
 use message::Seal;
@@ -74,11 +73,11 @@ impl Seal for OpenSeal {
 
     ghost reopens = { λ k h p. Laws.reopens k.key k.session h p };
 
-    ghost level = { Prim.search rules };
+    ghost level = { λ k h p. refl };
 
     ghost twelve = { λ k h p. Laws.twelve k.key k.session h p };
 
-    ghost leveled = { Prim.search rules };
+    ghost leveled = { λ k h b t p e. Laws.open_leveled k.key k.session h b t p e };
 
     fn seal(&self, header: &[u8; 16], payload: &mut [u8]) -> [u8; 12] {
         self.tag(header, payload)

@@ -1,9 +1,8 @@
 -- The front of a file, one accepted fragment further.
-use Rattle.std.proofs.Common.{◌≡◌, ℕ, ◌+◌, ◌-◌, ◌<◌, ◌≤◌, Bool, true, false, cond, not, ◌&&◌, List, [], ◌∷◌, ◌++◌, length, take, drop, is_ok, Ok, Err, Result, sym, refl, ap, ◌∙◌, arith, length-drop, length-take, take_all, take-add}
+use Rattle.std.proofs.Common.{◌≡◌, ℕ, ◌+◌, ◌-◌, ◌≤◌, Bool, true, false, cond, List, ◌++◌, length, take, drop, Ok, Err, Result, sym, refl, ◌∙◌, arith, length-drop, length-take, take_all, take-add}
 use Rattle.fragments.specs.declared.refusal.FragmentRefusal.{FragmentRefusal}
 use Rattle.fragments.specs.declared.refusal.FragmentRefusal.TheVariants.{SizeRule}
 use Rattle.fragments.specs.Progresses.{Standing, advanced, verdict, after}
-use Rattle.fragments.specs.Rule.{fits}
 use Rattle.fragments.proofs.Cutting.{last_fits}
 
 sized : (p : Bool) (x : Result Bool FragmentRefusal) (b : Bool) → cond p x (Err SizeRule) ≡ Ok b → p ≡ true

@@ -1,5 +1,5 @@
 -- A file announced, and carried over in fragments.
-use Rattle.std.specs.Prelude.{◌≡◌, ℕ, ◌^◌, ◌<◌, ◌≤◌, Bool, true, false, List, ◌++◌, length, take, vec_items, Option, MatchOption}
+use Rattle.std.specs.Prelude.{◌≡◌, ℕ, ◌^◌, ◌≤◌, List, length, take, vec_items, Option, MatchOption}
 use Rattle.digest.specs.Sha256.{sha256}
 use Rattle.fragments.specs.Progresses.{standing}
 use Rattle.transfer.specs.declared.announcement.Announcement.{Announcement}

@@ -1,6 +1,6 @@
 -- The worked values of the ciphers, computed by the definitions.
 use mathlib.Core.Path.{◌≡◌, refl, ap₂, ◌∙◌}
-use mathlib.Core.List.{List, []}
+use mathlib.Core.List.{[]}
 use Prim.Native.Nat.{ℕ}
 use lib.Bits.{bit_xor}
 use lib.Chars.{codes}
@@ -13,7 +13,7 @@ use Rattle.ghash.specs.Field.{halve, halves, pick, partial, product}
 use Rattle.gcm.specs.Blocks.{block_bytes, number, block_at}
 use Rattle.gcm.specs.Gcm.{absorb, blocks, ghash, counter, key_byte, stream, gctr, encrypted, tag_of}
 use Rattle.octets.specs.Hexadecimal.{hexadecimal}
-use Rattle.worked.specs.Ciphers.{bytes, counted, key, iv, text, front, added, CiphersWorked}
+use Rattle.worked.specs.Ciphers.{bytes, key, iv, text, front, added, CiphersWorked}
 
 -- The blocks that cases 15 and 16 encipher: 0, and the counters 1 to 5 under their IV.
 enciphered_0 : aes256 key 0x00 ≡ 0xacbef20579b4b8ebce889bac8732dad7

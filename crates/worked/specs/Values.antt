@@ -1,5 +1,5 @@
 -- Worked values of the public documents, as statements about the definitions that the contracts cite.
-use Rattle.std.specs.Prelude.{◌≡◌, List, [], ◌∷◌, ◌++◌, ℕ, codes, replicate}
+use Rattle.std.specs.Prelude.{◌≡◌, [], ◌∷◌, ◌++◌, codes, replicate}
 use Rattle.digest.specs.Sha256.{sha256}
 use Rattle.mac.specs.Hmac.{hmac}
 use Rattle.mac.specs.Pbkdf2.{pbkdf2}

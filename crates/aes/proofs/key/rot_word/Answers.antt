@@ -1,4 +1,4 @@
-use Rattle.std.proofs.Common.{◌≡◌, get_or, refl, ◌∙◌, rules}
+use Rattle.std.proofs.Common.{◌∙◌}
 use Rattle.aes.specs.Words.{rot_word, word, byte0, byte1, byte2, byte3}
 use Rattle.aes.proofs.key.rot_word.Goals as goal
 

@@ -1,4 +1,4 @@
-use Rattle.std.proofs.Common.{◌≡◌, ℕ, List, get_or, refl, ap, ◌∙◌, rules}
+use Rattle.std.proofs.Common.{◌≡◌, ℕ, List, get_or, ap}
 use Rattle.aes.specs.Words.{byte0, byte1, byte2, byte3}
 use Rattle.aes.proofs.Bytes.{byte0_lt, byte1_lt, byte2_lt, byte3_lt}
 use Rattle.aes.proofs.Columns.{mixed_sub, turned}

@@ -1,4 +1,4 @@
-use Rattle.std.proofs.Common.{◌≡◌, ◌*◌, ◌%◌, ◌^◌, ◌<◌, arith}
+use Rattle.std.proofs.Common.{◌≡◌, ◌*◌, ◌%◌, ◌^◌, arith}
 use Rattle.aes.specs.Cipher.{store}
 use Rattle.aes.proofs.Loops.{join_words}
 use Rattle.aes.proofs.state.joined.Goals as goal

@@ -1,4 +1,4 @@
-use Rattle.std.proofs.Common.{◌≡◌, ℕ, List, get_or, refl, ap, ◌∙◌, rules}
+use Rattle.std.proofs.Common.{◌≡◌, ℕ, List, get_or, ap}
 use Rattle.aes.specs.Words.{word, byte0, byte1, byte2, byte3}
 use Rattle.aes.proofs.Columns.{shifted_sub}
 use Rattle.aes.proofs.state.last_column.Goals as goal

@@ -1,4 +1,4 @@
-use Rattle.std.proofs.Common.{◌≡◌, ℕ, ◌-◌, cond, List, [], ◌∷◌, ◌++◌, length, take, drop, is_ok, Err, vec_items, sym, ap, ◌∙◌, inr, arith}
+use Rattle.std.proofs.Common.{ℕ, ◌-◌, cond, List, [], ◌∷◌, ◌++◌, length, take, drop, is_ok, Err, vec_items, sym, ap, ◌∙◌, inr, arith}
 use Rattle.cases.specs.Hex.{decoded}
 use Rattle.cases.proofs.Decoding.{onto, goes_on, stops, lone, done, none_made, refused_by}
 use Rattle.cases.proofs.word.decoded.Goals as goal

@@ -1,4 +1,4 @@
-use Rattle.std.proofs.Common.{◌≡◌, sym, refl, ap, ◌∙◌, arith}
+use Rattle.std.proofs.Common.{refl, ◌∙◌, arith}
 use Rattle.digest.specs.Sha256.{output}
 use Rattle.digest.proofs.Rounds.{output_put, output-all}
 use Rattle.digest.proofs.block.output.Goals as goal

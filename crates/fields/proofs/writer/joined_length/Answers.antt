@@ -1,6 +1,6 @@
-use Rattle.std.proofs.Common.{◌∷◌, length, arith}
+use Rattle.std.proofs.Common.{arith}
 use Rattle.std.proofs.lemmas.List.{length-append}
-use Rattle.fields.specs.Cuts.{led, joined}
+use Rattle.fields.specs.Cuts.{led}
 use Rattle.fields.specs.Takes.{lists}
 use Rattle.fields.proofs.Laying.{led_more, led_done, counted_none, counted}
 use Rattle.fields.proofs.writer.joined_length.Goals as goal

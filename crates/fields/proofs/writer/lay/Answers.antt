@@ -1,6 +1,6 @@
-use Rattle.std.proofs.Common.{◌≡◌, ◌-◌, ◌≤◌, ◌∷◌, length, arith, rules}
+use Rattle.std.proofs.Common.{◌≡◌, ◌-◌, ◌≤◌, length, arith, rules}
 use Rattle.std.proofs.lemmas.List.{length-append}
-use Rattle.fields.specs.Cuts.{led, joined}
+use Rattle.fields.specs.Cuts.{led}
 use Rattle.fields.specs.Takes.{lists}
 use Rattle.fields.proofs.Laying.{laid_none, laid_room, laid_more, still_room, laid_done}
 use Rattle.fields.proofs.writer.lay.Goals as goal

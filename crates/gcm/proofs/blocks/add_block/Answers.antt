@@ -1,5 +1,5 @@
-use Rattle.std.proofs.Common.{◌≡◌, ℕ, ◌/◌, ◌%◌, ◌^◌, List, ◌++◌, length, refl, ap, ◌∙◌, ap₂}
-use lib.Bits.{bit_and, and_mask}
+use Rattle.std.proofs.Common.{◌≡◌, ℕ, ◌/◌, ◌%◌, ◌^◌, List, ◌++◌, length, ap, ◌∙◌, ap₂}
+use lib.Bits.{and_mask}
 use Rattle.gcm.specs.Blocks.{block_bytes}
 use Rattle.gcm.proofs.Halves.{be8, halves, both_halves}
 use Rattle.gcm.proofs.blocks.add_block.Goals as goal

@@ -1,4 +1,4 @@
-use Rattle.std.proofs.Common.{◌≡◌, get_or, refl, ◌∙◌, arith}
+use Rattle.std.proofs.Common.{get_or, refl, ◌∙◌, arith}
 use Rattle.gcm.specs.Gcm.{stream}
 use Rattle.gcm.proofs.Stream.{partly-one, partly-all}
 use Rattle.gcm.proofs.blocks.add_half.Goals as goal

@@ -1,4 +1,4 @@
-use Rattle.std.proofs.Common.{◌≡◌, ℕ, ◌+◌, ◌*◌, ◌%◌, ◌^◌, ◌≤◌, List, [], ◌∷◌, length, get_or, ap, ◌∙◌, arith}
+use Rattle.std.proofs.Common.{◌≡◌, ℕ, ◌≤◌, get_or, arith}
 use Rattle.std.proofs.lemmas.List.{get_or_past}
 use Rattle.gcm.specs.Blocks.{number}
 use Rattle.gcm.proofs.blocks.iv_block.Goals as goal

@@ -1,4 +1,4 @@
-use Rattle.std.proofs.Common.{◌≡◌, ℕ, ◌+◌, ◌/◌, length, sym, refl, ap, ◌∙◌, arith}
+use Rattle.std.proofs.Common.{◌≡◌, ◌+◌, ◌/◌, length, refl, arith}
 use Rattle.gcm.specs.Gcm.{absorb, blocks}
 use Rattle.gcm.proofs.Numbers.{absorb-more}
 use Rattle.gcm.proofs.hash.absorb_bytes.Goals as goal

@@ -1,6 +1,4 @@
 use Prim.Native.Nat.{◌+◌, ◌*◌}
-use mathlib.Core.Path.{◌≡◌}
-use lib.ListN.{length}
 use Rattle.ghash.specs.Table.{Below}
 use Rattle.ghash.proofs.rows.fill_row.Given as goal
 

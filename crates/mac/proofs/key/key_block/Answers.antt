@@ -1,4 +1,4 @@
-use Rattle.std.proofs.Common.{◌≡◌, ◌-◌, length, ◌∙◌, arith, le-ltb, lt-ltb}
+use Rattle.std.proofs.Common.{◌-◌, length, ◌∙◌, arith, le-ltb, lt-ltb}
 use Rattle.mac.specs.Hmac.{key_block}
 use Rattle.mac.proofs.Bytes.{in_front}
 use Rattle.mac.proofs.key.key_block.Goals as goal

@@ -1,4 +1,4 @@
-use Rattle.std.proofs.Common.{◌≡◌, get_or, ◌∙◌, append-nil, arith, length-set, take_all}
+use Rattle.std.proofs.Common.{get_or, ◌∙◌, append-nil, arith, length-set, take_all}
 use lib.Bits.{bit_xor}
 use Rattle.std.proofs.lemmas.List.Edits.{map_over_more}
 use Rattle.std.proofs.lemmas.List.{get_or_default, drop_all}

@@ -1,6 +1,6 @@
-use Rattle.std.proofs.Common.{◌≡◌, sym, ap, ◌∙◌, append-nil, add-one, arith, take_all}
+use Rattle.std.proofs.Common.{◌∙◌, append-nil, add-one, arith, take_all}
 use Rattle.std.proofs.lemmas.List.{drop_all}
-use Rattle.mac.proofs.Bytes.{part, part-more}
+use Rattle.mac.proofs.Bytes.{part-more}
 use Rattle.mac.proofs.password.xor_into.Goals as goal
 
 pub loop-i-preserved : goal.loop-i-preserved

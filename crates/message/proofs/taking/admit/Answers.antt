@@ -1,4 +1,4 @@
-use Rattle.std.proofs.Common.{◌≡◌, sym, refl, ◌∙◌, arith}
+use Rattle.std.proofs.Common.{sym, refl, arith}
 use Rattle.std.proofs.lemmas.Result.{err_from_is_err_and}
 use Rattle.message.proofs.Admission.{admitted-by_header, admitted-by_kind, admitted-by_number, bounded}
 use Rattle.message.proofs.taking.admit.Goals as goal

@@ -1,4 +1,4 @@
-use Rattle.std.proofs.Common.{◌≡◌, sym, ap, ◌∙◌}
+use Rattle.std.proofs.Common.{sym, ap}
 use Rattle.message.specs.Messages.{Written}
 use Rattle.message.proofs.Laying.{no_room, too_long, goes, wrote}
 use Rattle.message.proofs.writing.lay.Goals as goal

@@ -1,4 +1,4 @@
-use Rattle.std.proofs.Common.{◌≡◌, ℕ, List, ◌++◌, length, refl, ◌∙◌, ap₂, append-nil, arith, length-append}
+use Rattle.std.proofs.Common.{ℕ, List, ◌++◌, ◌∙◌, ap₂, append-nil, arith, length-append}
 use Rattle.message.proofs.Laying.{over}
 use Rattle.seals.proofs.closed.added_of.Goals as goal
 

@@ -1,4 +1,4 @@
-use Rattle.std.proofs.Common.{length, arith}
+use Rattle.std.proofs.Common.{arith}
 use Rattle.digest.proofs.Steps.{room_left, room_gone}
 use Rattle.digest.proofs.hasher.Hasher.fill.Goals as goal
 

@@ -1,4 +1,4 @@
-use Rattle.std.proofs.Common.{◌≡◌, ℕ, ◌+◌, ◌-◌, ◌*◌, ◌/◌, ◌%◌, List, length, sym, refl, ap, ◌∙◌, arith}
+use Rattle.std.proofs.Common.{◌≡◌, ℕ, ◌+◌, ◌-◌, ◌*◌, ◌/◌, ◌%◌, length, sym, refl, ap, ◌∙◌, arith}
 use Rattle.aes.specs.Under.{under}
 use Rattle.gcm.specs.Blocks.{block_bytes}
 use Rattle.gcm.specs.Gcm.{stream, gctr, counter, key_byte}

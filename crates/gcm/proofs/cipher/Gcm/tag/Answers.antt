@@ -1,4 +1,4 @@
-use Rattle.std.proofs.Common.{◌≡◌, ℕ, List, [], ◌∷◌, get_or, take, sym, refl, ap, ◌∙◌, ap₂}
+use Rattle.std.proofs.Common.{◌≡◌, ℕ, List, [], ◌∷◌, get_or, take, ◌∙◌, ap₂}
 use lib.Bits.{bit_xor}
 use Rattle.aes.specs.Under.{under}
 use Rattle.gcm.specs.Blocks.{block_bytes}

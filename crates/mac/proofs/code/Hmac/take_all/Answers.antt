@@ -1,4 +1,4 @@
-use Rattle.std.proofs.Common.{ℕ, List, ◌++◌, ap, ◌∙◌, subst, append-nil, take_all}
+use Rattle.std.proofs.Common.{◌++◌, ap, ◌∙◌, append-nil, take_all}
 use Rattle.mac.specs.Codes.{coding, keyed, take_in}
 use Rattle.mac.specs.Parts.{joined}
 use Rattle.mac.proofs.Codes.{parts_more}

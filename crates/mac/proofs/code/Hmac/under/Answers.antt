@@ -1,6 +1,4 @@
 use Rattle.std.proofs.Common.{◌≡◌, ap, ◌∙◌}
-use Rattle.digest.specs.Running.{absorb, start}
-use Rattle.digest.specs.Stands.{running}
 use Rattle.mac.specs.Codes.{coding, keyed}
 use Rattle.mac.specs.Hmac.{inner_key, outer_key, masked}
 use Rattle.mac.proofs.Codes.{keyed-none}

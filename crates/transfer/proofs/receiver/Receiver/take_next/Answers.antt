@@ -1,4 +1,4 @@
-use Rattle.std.proofs.Common.{◌≡◌, ◌+◌, ◌-◌, take, vec_items, sym, refl, ap, ◌∙◌, arith}
+use Rattle.std.proofs.Common.{◌≡◌, ◌+◌, ◌-◌, take, vec_items, sym, ap, ◌∙◌, arith}
 use Rattle.fragments.specs.Progresses.{Standing, standing}
 use Rattle.transfer.proofs.Fronts.{moved, so_far, more, ends}
 use Rattle.transfer.proofs.receiver.Receiver.take_next.Goals as goal
