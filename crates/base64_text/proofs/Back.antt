@@ -1,7 +1,7 @@
 -- From bytes to text and back, and from text to bytes and back.
 use Rattle.std.proofs.Common.{◌≡◌, ℕ, ◌+◌, ◌*◌, ◌/◌, ◌%◌, ◌<◌, ◌≤◌, Bool, true, false, cond, ◌&&◌, eqb, ◌⊎◌, List, [], ◌∷◌, ◌++◌, length, is_some, Some, None, Decides, Option, sym, refl, ap, ◌∙◌, inl, inr, arith, eqb-true}
 use borrow.Author.Tests.{clash}
-use Rattle.std.specs.List.{AllByRecursion as All}
+use Rattle.std.specs.List.{AllByRecursion}
 use Rattle.base64_text.specs.Base64.{letter, value, encode, one_byte, two_bytes, three_bytes, group, before, decode}
 use Rattle.base64_text.specs.Groups.{counted}
 use Rattle.base64_text.specs.Laws.{Bytes, Canonical, DecodesWhatWasEncoded, EncodingOfWhatItDecodesTo}
@@ -190,7 +190,7 @@ all_append (x ∷ xs) ys h k = (h.0, all_append xs ys h.1 k)
 record Whole (t xs : List ℕ) : Type 0 where
   text : encode xs ≡ t
   small : Bytes xs
-  high : All (λ b. 43 ≤ b) t
+  high : AllByRecursion (λ b. 43 ≤ b) t
 
 whole : (t xs : List ℕ) → decode t ≡ Some xs → Whole t xs
 unfolding encode decode
@@ -216,10 +216,10 @@ pub decoded-bytes : (t xs : List ℕ) → decode t ≡ Some xs → Bytes xs
 decoded-bytes t xs e = (whole t xs e).small
 
 -- No byte of a canonical text is lower than 43.
-pub canonical_high : (t xs : List ℕ) → decode t ≡ Some xs → All (λ b. 43 ≤ b) t
+pub canonical_high : (t xs : List ℕ) → decode t ≡ Some xs → AllByRecursion (λ b. 43 ≤ b) t
 canonical_high t xs e = (whole t xs e).high
 
-pub encoding_high : (xs : List ℕ) → Bytes xs → All (λ b. 43 ≤ b) (encode xs)
+pub encoding_high : (xs : List ℕ) → Bytes xs → AllByRecursion (λ b. 43 ≤ b) (encode xs)
 encoding_high xs h = canonical_high (encode xs) xs (decodes_back xs h)
 
 there : (x : Option (List ℕ)) → is_some x ≡ true → (xs : List ℕ) × (x ≡ Some xs)

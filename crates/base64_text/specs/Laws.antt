@@ -1,11 +1,11 @@
 -- The laws of encoding and decoding, and worked texts.
 use Rattle.std.specs.Prelude.{◌≡◌, ℕ, zero, suc, ◌<◌, List, [], ◌∷◌, map, Some, codes}
-use Rattle.std.specs.List.{AllByRecursion as All}
+use Rattle.std.specs.List.{AllByRecursion}
 use Rattle.base64_text.specs.Base64.{letter, encode, decode}
 
 -- Every element is a byte.
 abbrev pub Bytes : List ℕ → Type 0
-Bytes xs = All (λ x. x < 256) xs
+Bytes xs = AllByRecursion (λ x. x < 256) xs
 
 -- A text is the encoding of some bytes.
 pub record Canonical (text : List ℕ) : Type 0 where

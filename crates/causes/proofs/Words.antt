@@ -3,7 +3,7 @@ use Rattle.std.proofs.Common.{◌≡◌, ℕ, Bool, true, cond, not, ◌&&◌, e
 use Rattle.octets.specs.Equality.{same}
 use Rattle.octets.proofs.Agreement.{same_decides}
 use Rattle.std.proofs.lemmas.Bool.{and_parts, both_ways, cond_both, eq-eqb, not-true}
-use Rattle.std.specs.List.{AllByRecursion as All}
+use Rattle.std.specs.List.{AllByRecursion}
 use Rattle.causes.specs.declared.cause.Cause.{Cause}
 use Rattle.causes.specs.declared.cause.Cause.TheVariants.{NoSpace, Held, BadName, PathTooLong, NoSuchName, AlreadyThere, NotEmpty, AtTop, ListTooLong}
 use Rattle.causes.specs.Causes.{word, cause_of_word, WordsTellCauses, WordsUnbroken}
@@ -56,7 +56,7 @@ abbrev unbroken : List ℕ → Bool
 unbroken [] = true
 unbroken (b ∷ bs) = not (eqb b 10) && unbroken bs
 
-without : (t : List ℕ) → unbroken t ≡ true → All (λ b. b ≡ 10 → ⊥) t
+without : (t : List ℕ) → unbroken t ≡ true → AllByRecursion (λ b. b ≡ 10 → ⊥) t
 without [] h = tt
 without (b ∷ bs) h =
     let k = and_parts (not (eqb b 10)) (unbroken bs) h in

@@ -1,7 +1,7 @@
 -- The causes for which a command is refused, their numbers and their words.
 use Rattle.std.specs.Prelude.{◌≡◌, ℕ, cond, List, Some, None, codes, Option, MatchOption, ◌==◌, ◌≢◌}
 use Rattle.octets.specs.Equality.{same}
-use Rattle.std.specs.List.{AllByRecursion as All}
+use Rattle.std.specs.List.{AllByRecursion}
 use Rattle.causes.specs.declared.cause.Cause.{Cause}
 use Rattle.causes.specs.declared.cause.Cause.TheVariants.{NoSpace, Held, BadName, PathTooLong, NoSuchName, AlreadyThere, NotEmpty, AtTop, ListTooLong}
 
@@ -65,4 +65,4 @@ WordsTellCauses = ((c : Cause) → cause_of_word (word c) ≡ Some c) × ((t : L
 
 -- No cause's words hold byte 10.
 abbrev pub WordsUnbroken : Type 0
-WordsUnbroken = (c : Cause) → All (λ b. b ≢ 10) (word c)
+WordsUnbroken = (c : Cause) → AllByRecursion (λ b. b ≢ 10) (word c)

@@ -1,6 +1,6 @@
 -- Cutting and joining undo each other.
 use Rattle.std.proofs.Common.{◌≡◌, ℕ, ◌+◌, ◌-◌, Bool, true, false, cond, not, eqb, List, [], ◌∷◌, ◌++◌, length, drop, sym, refl, ◌∙◌, append_assoc, arith}
-use Rattle.std.specs.List.{between, AllByRecursion as All}
+use Rattle.std.specs.List.{between, AllByRecursion}
 use Rattle.std.proofs.lemmas.List.{append-nil, drop_at, length-append, take_at}
 use Rattle.std.proofs.lemmas.Bool.{and_parts, not-true, eqb-true}
 use Rattle.fields.specs.Cuts.{onto, cut, led, joined, unbroken, all_unbroken, CutOfJoined, JoinedOfCut, placed, FieldsStand}
@@ -61,7 +61,7 @@ here f after before at t l e =
 
 -- Fields behind some bytes stand where those end.
 stand : (before : List ℕ) (fs : List (List ℕ)) (at : ℕ) (t : List ℕ) → length before ≡ at → t ≡ before ++ joined fs
-    → All (λ p. between p.start p.end t ≡ p.bytes) (placed at fs)
+    → AllByRecursion (λ p. between p.start p.end t ≡ p.bytes) (placed at fs)
 stand before [] at t l e = tt
 stand before (f ∷ []) at t l e = (here f [] before at t l e, tt)
 stand before (f ∷ g ∷ fs) at t l e =

@@ -1,6 +1,6 @@
 -- The fields of a text: byte 10 separates them.
 use Rattle.std.specs.Prelude.{◌≡◌, ℕ, ◌+◌, Bool, true, cond, not, ◌&&◌, List, [], ◌∷◌, ◌++◌, length, ◌==◌}
-use Rattle.std.specs.List.{between, AllByRecursion as All}
+use Rattle.std.specs.List.{between, AllByRecursion}
 
 -- A byte before the first of some fields.
 abbrev pub onto : ℕ → List (List ℕ) → List (List ℕ)
@@ -54,4 +54,4 @@ JoinedOfCut = (t : List ℕ) → (joined (cut t) ≡ t) × (all_unbroken (cut t)
 
 -- Each field's bytes stand in the text from its start to its end.
 abbrev pub FieldsStand : Type 0
-FieldsStand = (t : List ℕ) → All (λ p. between p.start p.end t ≡ p.bytes) (fields t)
+FieldsStand = (t : List ℕ) → AllByRecursion (λ p. between p.start p.end t ≡ p.bytes) (fields t)

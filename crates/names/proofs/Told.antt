@@ -2,7 +2,7 @@
 use Rattle.std.proofs.Common.{◌≡◌, ℕ, ◌≤◌, Bool, true, not, ◌&&◌, ◌||◌, eqb, leb, ◌⊎◌, List, [], ◌∷◌, length, Decides, refl, inl, inr, arith}
 use Rattle.octets.proofs.Agreement.{same_decides}
 use Rattle.std.proofs.lemmas.Bool.{eq-eqb, eqb-true, le-leb, leb-true, and_parts, and_from, or_cases, or_left, or_right, not-true, not_from_false, both_ways, cases_Bool}
-use Rattle.std.specs.List.{AllByRecursion as All}
+use Rattle.std.specs.List.{AllByRecursion}
 use Rattle.names.specs.Names.{letter, letters, plain, name, user}
 use Rattle.names.specs.Laws.{Letter, Told, NamesTold, UsersTold}
 
@@ -39,7 +39,7 @@ letter-told b =
     either _ _ (from_to 65 90 b) (either _ _ (from_to 97 122 b)
     (either _ _ (from_to 48 57 b) (either _ _ (equals b 45) (either _ _ (equals b 46) (equals b 95)))))
 
-pub letters-told : (t : List ℕ) → Decides (letters t) (All Letter t)
+pub letters-told : (t : List ℕ) → Decides (letters t) (AllByRecursion Letter t)
 unfolding letters
 letters-told [] = (λ _. tt, λ _. refl)
 letters-told (b ∷ bs) = both (letter b) (letters bs) (letter-told b) (letters-told bs)
@@ -61,13 +61,13 @@ users_told = told 16
 letter-high : (b : ℕ) → Letter b → 45 ≤ b
 letter-high b h = omega arith
 
-letters-high : (t : List ℕ) → All Letter t → All (λ b. 45 ≤ b) t
+letters-high : (t : List ℕ) → AllByRecursion Letter t → AllByRecursion (λ b. 45 ≤ b) t
 letters-high [] h = tt
 letters-high (b ∷ bs) h = (letter-high b h.0, letters-high bs h.1)
 
 -- No byte of a user or a name is below 45.
-pub user-high : (t : List ℕ) → user t ≡ true → All (λ b. 45 ≤ b) t
+pub user-high : (t : List ℕ) → user t ≡ true → AllByRecursion (λ b. 45 ≤ b) t
 user-high t h = letters-high t ((users_told t).0 h).every
 
-pub name-high : (t : List ℕ) → name t ≡ true → All (λ b. 45 ≤ b) t
+pub name-high : (t : List ℕ) → name t ≡ true → AllByRecursion (λ b. 45 ≤ b) t
 name-high t h = letters-high t ((names_told t).0 h).every

@@ -1,6 +1,6 @@
 -- What is said of names and users in plain words.
 use Rattle.std.specs.Prelude.{◌≡◌, ℕ, ◌≤◌, true, false, ◌⊎◌, List, [], ◌∷◌, length, codes, Decides}
-use Rattle.std.specs.List.{AllByRecursion as All}
+use Rattle.std.specs.List.{AllByRecursion}
 use Rattle.names.specs.Names.{name, user}
 
 -- A to Z, a to z, 0 to 9, hyphen, dot or underscore.
@@ -12,7 +12,7 @@ Letter b =
 pub record Told (most : ℕ) (t : List ℕ) : Type 0 where
   pub some : 1 ≤ length t
   pub few : length t ≤ most
-  pub every : All Letter t
+  pub every : AllByRecursion Letter t
   pub no_dot : t ≡ 46 ∷ [] → ⊥
   pub no_dots : t ≡ 46 ∷ 46 ∷ [] → ⊥
 

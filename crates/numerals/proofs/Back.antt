@@ -2,7 +2,7 @@
 use Rattle.std.proofs.Common.{◌≡◌, ℕ, ◌+◌, ◌*◌, ◌/◌, ◌%◌, ◌^◌, ◌<◌, ◌≤◌, Bool, true, false, cond, ◌&&◌, ltb, List, [], ◌∷◌, length, get_or, Some, None, decimal, Option, sym, refl, ap, ◌∙◌, inl, inr, arith, rules}
 use borrow.Author.Tests.{clash}
 use Rattle.octets.specs.Hexadecimal.{digit, hexadecimal}
-use Rattle.std.specs.List.{AllByRecursion as All}
+use Rattle.std.specs.List.{AllByRecursion}
 use Rattle.std.proofs.lemmas.Fmt.{decimal_digit, decimal_nonempty, decimal-digits_value, digits_decimal, first_decimal, digits_value-decimal}
 use Rattle.std.proofs.lemmas.Str.Parse.{IsNumeralModel, numerals_by_fold}
 use Rattle.std.proofs.lemmas.Bool.{and_parts, cases_lt, eq-eqb, eqb-false, eqb-true, lt-ltb, ltb-true, ne_eqb, not-true, not_from_false}
@@ -80,7 +80,7 @@ decimals_read_back = record { back = decimal_reads_back; only = decimal_only }
 digit_back : (d : ℕ) → d < 16 → digit_of (digit d) ≡ Some d
 digit_back d h = grind (arith, nat_tests)
 
-bytes_back : (bs : List ℕ) → All (λ b. b < 256) bs → bytes_of (hexadecimal bs) ≡ Some bs
+bytes_back : (bs : List ℕ) → AllByRecursion (λ b. b < 256) bs → bytes_of (hexadecimal bs) ≡ Some bs
 unfolding bytes_of hexadecimal
 bytes_back [] a = refl
 bytes_back (b ∷ bs) a =
@@ -94,7 +94,7 @@ unfolding hexadecimal
 length-hexadecimal [] = refl
 length-hexadecimal (b ∷ bs) = omega (arith, length-hexadecimal bs)
 
-digest_back : (bs : List ℕ) → length bs ≡ 32 → All (λ b. b < 256) bs → digest_of (hexadecimal bs) ≡ Some bs
+digest_back : (bs : List ℕ) → length bs ≡ 32 → AllByRecursion (λ b. b < 256) bs → digest_of (hexadecimal bs) ≡ Some bs
 unfolding digest_of
 digest_back bs l a =
     let s : sized (hexadecimal bs) ≡ true = eq-eqb (length (hexadecimal bs)) 64 (omega (arith, length-hexadecimal bs)) in

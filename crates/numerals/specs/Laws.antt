@@ -1,7 +1,7 @@
 -- What is written is read back, and nothing else is read; worked values.
 use Rattle.std.specs.Prelude.{◌≡◌, ℕ, ◌^◌, ◌<◌, ◌≤◌, List, length, Some, None, codes, decimal}
 use Rattle.octets.specs.Hexadecimal.{hexadecimal}
-use Rattle.std.specs.List.{AllByRecursion as All}
+use Rattle.std.specs.List.{AllByRecursion}
 use Rattle.numerals.specs.Decimals.{decimal_of}
 use Rattle.numerals.specs.Digests.{digit_of, digest_of}
 
@@ -12,7 +12,7 @@ pub record DecimalsReadBack : Type 0 where
 
 -- The text of 32 bytes is read as the bytes, and a text that is read is the text of its 32 bytes.
 pub record DigestsReadBack : Type 0 where
-  pub back : (bs : List ℕ) → length bs ≡ 32 → All (λ b. b < 256) bs → digest_of (hexadecimal bs) ≡ Some bs
+  pub back : (bs : List ℕ) → length bs ≡ 32 → AllByRecursion (λ b. b < 256) bs → digest_of (hexadecimal bs) ≡ Some bs
   pub only : (t bs : List ℕ) → digest_of t ≡ Some bs → (t ≡ hexadecimal bs) × (length bs ≡ 32)
 
 -- Worked values, at the bounds and just past them.

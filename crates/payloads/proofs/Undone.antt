@@ -1,6 +1,6 @@
 -- What is known of each step of a reading that succeeded.
 use Rattle.std.proofs.Common.{◌≡◌, ℕ, ◌+◌, ◌<◌, ◌≤◌, Bool, true, false, ◌&&◌, eqb, List, [], ◌∷◌, length, Some, None, Ok, Err, Option, Result, refl, ap, arith}
-use Rattle.std.specs.List.{AllByRecursion as All}
+use Rattle.std.specs.List.{AllByRecursion}
 use Rattle.std.proofs.lemmas.Bool.{ne_eqb, eqb-true, le-leb}
 use Rattle.fields.specs.Cuts.{Piece, placed, joined, unbroken, all_unbroken}
 use Rattle.fields.specs.Takes.{and_then, taken, taken_closed, ended, ended_closed, writing, must, pass}
@@ -59,7 +59,7 @@ was_true n p true x h = refl
 was_true n p false x h = let z : ◌≡◌ {A = ℕ} 0 1 = cc in absurd (omega arith)
 
 -- Bytes that are all over 10 are not 10.
-pub high-unbroken : (k : ℕ) (t : List ℕ) → 10 < k → All (λ b. k ≤ b) t → unbroken t ≡ true
+pub high-unbroken : (k : ℕ) (t : List ℕ) → 10 < k → AllByRecursion (λ b. k ≤ b) t → unbroken t ≡ true
 high-unbroken k [] h a = refl
 high-unbroken k (b ∷ t) h a = rw (ne_eqb b 10 (λ z. omega (arith, a.0)), high-unbroken k t h a.1)
 
