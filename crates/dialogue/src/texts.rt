@@ -1,7 +1,6 @@
 // The texts of the task: each is written by the end that says it, and read back as the other end does.
 ghost use Rattle.std.specs.Prelude.{◌≡◌, min, length, take};
 
-use crate::announcement::Announcement;
 use crate::shown::Shown;
 use crate::text_failure::TextFailure;
 use commands::Command;
@@ -66,17 +65,19 @@ fn told(rt: &HostRuntime, is_so: bool, what: &str) -> Result<(), TextFailure> {
 // The command to upload the file, and its response.
 pub fn upload(
     rt: &HostRuntime,
-    announcement: &Announcement,
+    name: &[u8],
+    file: &[u8],
+    size: u32,
     buffer: &mut [u8],
 ) -> Result<(), TextFailure> {
-    let digest = hexadecimal(&announcement.digest);
+    let digest = hexadecimal(&sha256(file));
     let command = Command::Upl {
-        name: announcement.name.as_bytes(),
-        size: announcement.size,
+        name,
+        size,
         digest: &digest,
     };
-    let size = command.write(buffer)?;
-    let text = front(buffer, size);
+    let length = command.write(buffer)?;
+    let text = front(buffer, length);
     let shown = Shown(text);
     println!(rt; "command: {shown}")?;
     let Command::Upl { name, size, .. } = Command::read(text)? else {
