@@ -1,4 +1,4 @@
-// The texts of the task: each is written by the end that says it, and read back as the other end does.
+// The texts of one upload: each is written by the end that says it, and read back as the other end does.
 ghost use Rattle.std.specs.Prelude.{◌≡◌, min, length, take};
 
 use crate::shown::Shown;
