@@ -1,3 +1,4 @@
+pub mod Chunks
 pub mod Lengths
 pub mod Pieces
 pub mod Rounds

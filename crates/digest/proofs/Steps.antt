@@ -1,5 +1,5 @@
 -- What a hasher stands for after a piece that its buffer has room for.
-use Rattle.std.proofs.Common.{◌≡◌, ℕ, suc, ◌+◌, ◌-◌, ◌*◌, ◌/◌, ◌%◌, ◌^◌, ◌<◌, ◌≤◌, List, [], ◌∷◌, ◌++◌, length, take, drop, replicate, sym, refl, ap, ◌∙◌, arith, length-append, length-take, length-take-le, take_all, take-add, rules}
+use Rattle.std.proofs.Common.{◌≡◌, ℕ, suc, ◌+◌, ◌*◌, ◌/◌, ◌%◌, ◌^◌, ◌<◌, ◌≤◌, List, [], ◌∷◌, ◌++◌, length, take, drop, replicate, sym, refl, ap, ◌∙◌, arith, length-append, length-take, length-take-le, take_all, rules}
 use borrow.Rule.Slice.PartMut.{put_mid}
 use Rattle.std.proofs.lemmas.List.{drop_all, take-replicate}
 use Rattle.std.proofs.lemmas.Slice.{take-put_mid, overwrites}
@@ -39,18 +39,17 @@ module _ (h : Hasher) (d : List ℕ) (k : ℕ) (whole : length h.buffer ≡ 64) 
       let w : drop 64 (take (h.total % 64) h.buffer ++ d) ≡ [] = drop_all 64 (take (h.total % 64) h.buffer ++ d) (omega (arith, long)) in
       rw (n, t, g, b, m, w)
 
--- From piece to piece: r stood at the start, s after the first i bytes, t after n more.
-pub update_none : (h : Hasher) (bs : List ℕ) → h.total < 2 ^ 64 → running h ≡ absorb (running h) (take 0 bs)
-update_none h bs f = sym (absorb-none (running h) (simp length-take (omega arith)) f)
+-- From part to part: r stood before the part p, and q is what is left after it.
+pub count_more : (r s : Running) (p : List ℕ) → s ≡ absorb r p → s.count ≡ (r.count + length p) % 2 ^ 64
+unfolding absorb
+count_more r s p e = ap (λ (x : Running). x.count) e
 
-pub update_more : (r s t : Running) (bs : List ℕ) (i n : ℕ) → s ≡ absorb r (take i bs) → t ≡ absorb s (take ((i + n) - i) (drop i bs))
-    → t ≡ absorb r (take (i + n) bs)
-update_more r s t bs i n e f =
-    let k : (i + n) - i ≡ n = omega arith in
-    f ∙ rw (e, joins, k, take-add)
+pub parts_more : (r s : Running) (p q b : List ℕ) → s ≡ absorb r p → b ≡ p ++ q → absorb s q ≡ absorb r b
+parts_more r s p q b e f = rw (e, joins, f)
 
-pub update_all : (r s : Running) (bs : List ℕ) (i : ℕ) → length bs ≤ i → s ≡ absorb r (take i bs) → s ≡ absorb r bs
-update_all r s bs i h e = e ∙ ap (λ x. absorb r x) (take_all i bs h)
+pub parts_all : (h : Hasher) (b : List ℕ) → h.total < 2 ^ 64 → length b ≡ 0 → running h ≡ absorb (running h) b
+parts_all h [] f n = sym (absorb-none (running h) (simp length-take (omega arith)) f)
+parts_all h (x ∷ b) f n = absurd (omega arith)
 
 pub absorbed_more : (r s : Running) (m bs : List ℕ) → r ≡ absorb start m → s ≡ absorb r bs → s ≡ absorb start (m ++ bs)
 absorbed_more r s m bs a e = e ∙ ap (λ x. absorb x bs) a ∙ joins start m bs

@@ -2,7 +2,7 @@
 ghost use Rattle.std.specs.Prelude.{◌≡◌, ◌+◌, ◌<◌, ◌≤◌, length, take, slice_index, slice_set};
 ghost use Rattle.digest.specs.Sha256.{constants, word, late, schedule, round, compress, output};
 
-use crate::words::{big_sigma0, big_sigma1, ch, maj, small_sigma0, small_sigma1};
+use crate::words::{big_sigma, ch, maj, small_sigma};
 
 static K: [u32; 64] = [
     0x428a_2f98,
@@ -71,26 +71,14 @@ static K: [u32; 64] = [
     0xc671_78f2,
 ];
 
-fn word(block: &[u8; 64], t: usize) -> u32
-    requires { t < 16 }
-    ensures { result ≡ word block.now t }
-{
-    u32::from_be_bytes([
-        block[4 * t],
-        block[4 * t + 1],
-        block[4 * t + 2],
-        block[4 * t + 3],
-    ])
-}
-
 // A schedule with its first 16 words, those of the block.
 fn first_words(block: &[u8; 64]) -> [u32; 64]
     ensures whole { length result ≡ 64 }
     ensures front { take 16 result ≡ schedule block.now 16 }
 {
     let mut w = [0u32; 64];
-    for t in 0..16 {
-        w[t] = word(block, t);
+    for (t, bytes) in block.as_chunks::<4>().0.iter().enumerate() {
+        w[t] = u32::from_be_bytes(*bytes);
     }
     w
 }
@@ -100,9 +88,9 @@ fn extend(w: &mut [u32; 64], t: usize)
     requires { (16 ≤ t) × (t < 64) }
     ensures { w.new ≡ slice_set w.old t (late w.old t) }
 {
-    w[t] = small_sigma1(w[t - 2])
+    w[t] = small_sigma::<17, 19, 10>(w[t - 2])
         .wrapping_add(w[t - 7])
-        .wrapping_add(small_sigma0(w[t - 15]))
+        .wrapping_add(small_sigma::<7, 18, 3>(w[t - 15]))
         .wrapping_add(w[t - 16]);
 }
 
@@ -113,11 +101,11 @@ fn round(v: [u32; 8], w: &[u32; 64], t: usize) -> [u32; 8]
 {
     let [a, b, c, d, e, f, g, h] = v;
     let t1 = h
-        .wrapping_add(big_sigma1(e))
+        .wrapping_add(big_sigma::<6, 11, 25>(e))
         .wrapping_add(ch(e, f, g))
         .wrapping_add(K[t])
         .wrapping_add(w[t]);
-    let t2 = big_sigma0(a).wrapping_add(maj(a, b, c));
+    let t2 = big_sigma::<2, 13, 22>(a).wrapping_add(maj(a, b, c));
     [t1.wrapping_add(t2), a, b, c, d.wrapping_add(t1), e, f, g]
 }
 
@@ -163,8 +151,8 @@ pub(crate) fn output(state: &[u32; 8]) -> [u8; 32]
     ensures { result ≡ output state.now }
 {
     let mut bytes = [0u8; 32];
-    for i in 0..8 {
-        bytes[4 * i..4 * i + 4].copy_from_slice(&state[i].to_be_bytes());
+    for (i, word) in state.iter().enumerate() {
+        bytes[4 * i..4 * i + 4].copy_from_slice(&word.to_be_bytes());
     }
     bytes
 }

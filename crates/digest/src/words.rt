@@ -1,6 +1,6 @@
-// The six functions on words.
-ghost use Rattle.std.specs.Prelude.{◌≡◌};
-ghost use Rattle.digest.specs.Sha256.{ch, maj, big_sigma0, big_sigma1, small_sigma0, small_sigma1};
+// The six functions on words; the four sigmas are two, at the standard's distances.
+ghost use Rattle.std.specs.Prelude.{◌≡◌, ◌<◌, bit_xor};
+ghost use Rattle.digest.specs.Sha256.{ch, maj, rotr, shr};
 
 pub(crate) fn ch(x: u32, y: u32, z: u32) -> u32
     ensures { result ≡ ch x y z }
@@ -14,26 +14,16 @@ pub(crate) fn maj(x: u32, y: u32, z: u32) -> u32
     (x & y) ^ (x & z) ^ (y & z)
 }
 
-pub(crate) fn big_sigma0(x: u32) -> u32
-    ensures { result ≡ big_sigma0 x }
+pub(crate) fn big_sigma<const A: u32, const B: u32, const C: u32>(x: u32) -> u32
+    requires { (0 < A) × (A < 32) × (0 < B) × (B < 32) × (0 < C) × (C < 32) }
+    ensures { result ≡ bit_xor (bit_xor (rotr A x) (rotr B x)) (rotr C x) }
 {
-    x.rotate_right(2) ^ x.rotate_right(13) ^ x.rotate_right(22)
+    x.rotate_right(A) ^ x.rotate_right(B) ^ x.rotate_right(C)
 }
 
-pub(crate) fn big_sigma1(x: u32) -> u32
-    ensures { result ≡ big_sigma1 x }
+pub(crate) fn small_sigma<const A: u32, const B: u32, const C: u32>(x: u32) -> u32
+    requires { (0 < A) × (A < 32) × (0 < B) × (B < 32) × (0 < C) × (C < 32) }
+    ensures { result ≡ bit_xor (bit_xor (rotr A x) (rotr B x)) (shr C x) }
 {
-    x.rotate_right(6) ^ x.rotate_right(11) ^ x.rotate_right(25)
-}
-
-pub(crate) fn small_sigma0(x: u32) -> u32
-    ensures { result ≡ small_sigma0 x }
-{
-    x.rotate_right(7) ^ x.rotate_right(18) ^ (x >> 3)
-}
-
-pub(crate) fn small_sigma1(x: u32) -> u32
-    ensures { result ≡ small_sigma1 x }
-{
-    x.rotate_right(17) ^ x.rotate_right(19) ^ (x >> 10)
+    x.rotate_right(A) ^ x.rotate_right(B) ^ (x >> C)
 }
