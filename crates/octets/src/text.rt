@@ -17,9 +17,9 @@ pub(crate) fn digits_of(digest: &[u8; 32]) -> [u8; 64]
     ensures { result ≡ hexadecimal digest.now }
 {
     let mut text = [0u8; 64];
-    for i in 0..32 {
-        text[2 * i] = digit(digest[i] / 16);
-        text[2 * i + 1] = digit(digest[i] % 16);
+    for (i, byte) in digest.iter().enumerate() {
+        text[2 * i] = digit(*byte / 16);
+        text[2 * i + 1] = digit(*byte % 16);
     }
     text
 }

@@ -1,5 +1,6 @@
-use Rattle.std.proofs.Common.{◌≡◌, ◌+◌, ◌*◌, refl, arith, lit≤}
-use Rattle.digest.specs.Sha256.{rounds}
+use Rattle.std.proofs.Common.{◌≡◌, ◌+◌, ◌*◌, refl, arith, lit≤, get_or, ◌∙◌, rules}
+use Rattle.digest.specs.Sha256.{rounds, plus}
+use Rattle.digest.proofs.Made.{made}
 use Rattle.digest.proofs.Rounds.{Ahead, ahead_more, ahead_all, rounds-more, compress-all}
 use Rattle.digest.proofs.block.compress.Goals as goal
 
@@ -40,5 +41,6 @@ returns c =
     let b = c.args.block.now in
     let s = c.args.state.now in
     let a : Ahead b s (4 * c.loop-i.i) c.loop-i.w c.loop-i.v = c.loop-i.invariant in
-    compress-all b s c.loop-i.w c.loop-i-2.v (4 * c.loop-i-2.i) (ahead_all b s c.loop-i.w c.loop-i.v (4 * c.loop-i.i) (omega arith) a)
+    made _ (λ k. plus (get_or s k 0) (get_or c.loop-i-2.v k 0)) _ (λ i y q k. search rules) c.from_fn.result 8 0 c.from_fn.ensures.items
+    ∙ compress-all b s c.loop-i.w c.loop-i-2.v (4 * c.loop-i-2.i) (ahead_all b s c.loop-i.w c.loop-i.v (4 * c.loop-i.i) (omega arith) a)
     (omega (arith, c.loop-i-2.auto.i-end (lit≤ tt))) c.loop-i-2.invariant

@@ -1,9 +1,9 @@
-use Rattle.std.proofs.Common.{arith}
-use Rattle.octets.proofs.Agreement.{agree_more, agree_all, agree_same, unlike}
+use Rattle.std.proofs.Common.{◌≡◌, eqb, Decides, arith, rules, tests}
+use lib.Bits.{bit_or, bit_xor}
+use Rattle.std.proofs.lemmas.Iterator.{YieldsList-from_slice, YieldsList-from_zip}
+use Rattle.std.proofs.lemmas.Iterator.Consumers.{fold_from_yields_List}
+use Rattle.octets.proofs.Agreement.{gathered, alike, agree_same, unlike}
 use Rattle.octets.proofs.compare.no_difference.Goals as goal
-
-pub loop-i-preserved : goal.loop-i-preserved
-loop-i-preserved c = agree_more c.args.a.now c.args.b.now c.loop-i.i c.loop-i.difference (omega arith) (omega arith) c.loop-i.invariant
 
 pub returns-then-a-b : goal.returns-then-a-b
 returns-then-a-b c =
@@ -12,5 +12,10 @@ returns-then-a-b c =
 
 pub returns : goal.returns
 returns c =
-    let d = agree_all c.args.a.now c.args.b.now c.loop-i.i c.loop-i.difference (omega arith) (omega arith) c.loop-i.invariant in
-    record { value = agree_same c.args.a.now c.args.b.now _ d; law = d }
+    let a = c.args.a.now in
+    let b = c.args.b.now in
+    let f : c.fold.result ≡ gathered 0 a b =
+    fold_from_yields_List _ (λ g p. bit_or g (bit_xor p.0 p.1)) 0 _ c.fold.ensures.ran
+    (YieldsList-from_zip (YieldsList-from_slice a cc) (YieldsList-from_slice b cc)) (λ g x r q k. search (rules, tests)) in
+    let d : Decides (eqb c.fold.result 0) (a ≡ b) = rw f (alike a b (omega arith)) in
+    record { value = agree_same a b _ d; law = d }
