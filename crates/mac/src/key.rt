@@ -19,9 +19,5 @@ pub(crate) fn key_block(key: &[u8]) -> [u8; 64]
 pub(crate) fn masked(block: &[u8; 64], mask: u8) -> [u8; 64]
     ensures { result ≡ masked mask block.now }
 {
-    let mut out = *block;
-    for i in 0..64 {
-        out[i] ^= mask;
-    }
-    out
+    block.map(|byte| byte ^ mask)
 }

@@ -7,8 +7,8 @@ use crate::code::Hmac;
 fn xor_into(sum: &mut [u8; 32], by: &[u8; 32])
     ensures { sum.new ≡ xors sum.old by.now }
 {
-    for i in 0..32 {
-        sum[i] ^= by[i];
+    for (i, byte) in by.iter().enumerate() {
+        sum[i] ^= *byte;
     }
 }
 
@@ -21,7 +21,7 @@ pub(crate) fn derive(password: &[u8], salt: &[u8], rounds: u32) -> [u8; 32]
     first.update(&[0, 0, 0, 1]);
     let mut last = first.finish();
     let mut sum = last;
-    for j in 1..rounds {
+    for _round in 1..rounds {
         let mut next = keyed;
         next.update(&last);
         last = next.finish();
