@@ -2,22 +2,20 @@
 ghost use Rattle.std.specs.Prelude.{◌≡◌};
 ghost use Rattle.fragments.specs.Refusals.{number};
 
+// Each has the number under which both ends give it.
 #[derive(Clone, Copy, PartialEq, Eq, Debug)]
 pub enum FragmentRefusal {
     // its size breaks the rule
-    SizeRule,
+    SizeRule = 18,
     // with this last fragment, the file's digest is not the announced one
-    Digest,
+    Digest = 19,
 }
 
 impl FragmentRefusal {
-    // The number under which both ends give this refusal.
+    // Its number.
     pub fn number(&self) -> u8
         ensures { result ≡ number self.now }
     {
-        match self {
-            FragmentRefusal::SizeRule => 18,
-            FragmentRefusal::Digest => 19,
-        }
+        *self as u8
     }
 }

@@ -1,2 +1,3 @@
-pub mod Entries
+pub mod Filled
+pub mod Made
 pub mod Product

@@ -9,20 +9,20 @@ mod rows;
 
 use rows::products;
 
-// The products of a block h with each nibble at each of its 32 places: 8 KiB.
+// The products of a block h with each nibble at each of its 32 places, a row for each place: 8 KiB.
 #[derive(Drop)]
 pub struct Multiplier {
     h: u128,
-    table: [u128; 512],
-    ghost holds: { Products h table },
+    rows: [[u128; 16]; 32],
+    ghost holds: { Products h rows },
 }
 
 impl Multiplier {
     pub fn new(h: u128) -> Multiplier
         ensures { result.h ≡ h }
     {
-        let table = products(h);
-        Multiplier { h, table }
+        let rows = products(h);
+        Multiplier { h, rows }
     }
 
     // The product of y and h.
@@ -32,14 +32,14 @@ impl Multiplier {
         self.gathered(y)
     }
 
-    // The sum of the products of each nibble of y, the lowest first.
+    // The sum of the products of each nibble of y, the lowest first, whose place is the last.
     fn gathered(&self, y: u128) -> u128
         ensures { result ≡ product y self.now.h }
     {
         let mut z = 0u128;
         let mut rest = y;
-        for j in 0..32 {
-            z ^= self.table[16 * (31 - j) + (rest & 15) as usize];
+        for row in self.rows.iter().rev() {
+            z ^= row[(rest & 15) as usize];
             rest >>= 4;
         }
         z

@@ -1,7 +1,9 @@
 // The products of a block with each nibble at each place.
-ghost use Rattle.std.specs.Prelude.{◌≡◌, ◌+◌, ◌*◌, ◌<◌};
+ghost use Rattle.std.specs.Prelude.{◌≡◌};
 ghost use Rattle.ghash.specs.Field.{halve, halves, pick, partial};
-ghost use Rattle.ghash.specs.Table.{Below, Products};
+ghost use Rattle.ghash.specs.Table.{IsRow, Products};
+
+use std::array;
 
 fn halve_block(v: u128) -> u128
     ensures { result ≡ halve v }
@@ -36,26 +38,21 @@ fn four_on(v: u128) -> u128
     halve_block(halve_block(halve_block(halve_block(v))))
 }
 
-// The row of products at nibble j, where v is h moved to there.
-fn fill_row(table: &mut [u128; 512], j: usize, v: u128, h: u128)
-    requires place { j < 32 }
-    requires moved { v ≡ halves (4 * j) h }
-    requires filled { Below (16 * j) h table.old }
-    ensures { Below (16 * j + 16) h table.new }
+// The products of v with each nibble.
+fn row(v: u128) -> [u128; 16]
+    ensures { IsRow v result }
 {
-    for n in 0..16 {
-        table[16 * j + n] = nibble_product(n, v);
-    }
+    array::from_fn(|n| nibble_product(n, v))
 }
 
-pub(crate) fn products(h: u128) -> [u128; 512]
+pub(crate) fn products(h: u128) -> [[u128; 16]; 32]
     ensures { Products h result }
 {
-    let mut table = [0u128; 512];
+    let mut rows = [[0u128; 16]; 32];
     let mut v = h;
-    for j in 0..32 {
-        fill_row(&mut table, j, v, h);
+    for place in rows.iter_mut() {
+        *place = row(v);
         v = four_on(v);
     }
-    table
+    rows
 }

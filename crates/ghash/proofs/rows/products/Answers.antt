@@ -1,18 +1,21 @@
-use mathlib.Core.Path.{◌≡◌, refl, sym, ap, ◌∙◌}
-use Prim.Native.Nat.{ℕ, ◌+◌, ◌*◌}
-use native.Mathlib.Omega.{arith}
+use Rattle.std.proofs.Common.{◌≡◌, ℕ, ◌+◌, ◌*◌, refl, sym, ap, ◌∙◌, arith, length-set}
 use Rattle.ghash.specs.Field.{halves}
+use Rattle.ghash.proofs.Filled.{rows_more}
 use Rattle.ghash.proofs.Product.{halves-add}
 use Rattle.ghash.proofs.rows.products.Goals as goal
 
-pub loop-j-init : goal.loop-j-init
+pub loop-place-init : goal.loop-place-init
 unfolding halves
-loop-j-init c = (refl, λ k lt. absurd (omega arith))
+loop-place-init c = (refl, refl, λ j lt. absurd (omega arith))
 
-pub loop-j-preserved : goal.loop-j-preserved
-loop-j-preserved c =
-    let j = c.loop-j.j in
+pub loop-place-preserved : goal.loop-place-preserved
+loop-place-preserved c =
+    let j = c.loop-place.place-index in
     let e : 4 * (j + 1) ≡ 4 * j + 4 = omega arith in (
-      c.four_on-v.ensures ∙ ap (halves 4) c.loop-j.invariant.0 ∙ sym (ap (λ (n : ℕ). halves n c.args.h) e ∙ halves-add (4 * j) 4 c.args.h),
-      λ k lt. c.fill_row.ensures k (omega arith),
+      c.four_on-v.ensures ∙ ap (halves 4) c.loop-place.invariant.0 ∙ sym (ap (λ (n : ℕ). halves n c.args.h) e ∙ halves-add (4 * j) 4 c.args.h),
+      length-set _ _ _ ∙ c.loop-place.invariant.1,
+      rows_more j c.args.h c.loop-place.v c.row.result c.loop-place.place-items (omega arith) c.loop-place.invariant.0 c.loop-place.invariant.2 c.row.ensures,
     )
+
+pub returns : goal.returns
+returns c j lt = c.loop-place.invariant.2 j (omega arith)

@@ -1,8 +1,7 @@
-use Prim.Native.Nat.{◌*◌}
-use mathlib.Core.Path.{◌≡◌}
+use Rattle.std.proofs.Common.{◌≡◌, ◌*◌, length}
 use Rattle.ghash.specs.Field.{halves}
-use Rattle.ghash.specs.Table.{Below}
+use Rattle.ghash.specs.Table.{Rows}
 use Rattle.ghash.proofs.rows.products.Given as goal
 
-abbrev pub invariant-loop-j : goal.invariant-loop-j
-invariant-loop-j l = (l.v ≡ halves (4 * l.j) l.h) × Below (16 * l.j) l.h l.table
+abbrev pub invariant-loop-place : goal.invariant-loop-place
+invariant-loop-place l = (l.v ≡ halves (4 * l.place-index) l.h) × (length l.place-items ≡ 32) × Rows l.place-index l.h l.place-items
