@@ -1,4 +1,5 @@
 pub mod Bytes
+pub mod Chunks
 pub mod Columns
 pub mod Loops
 pub mod MixRule

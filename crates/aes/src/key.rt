@@ -36,9 +36,10 @@ pub(crate) fn expanded(key: &[u8; 32]) -> [u32; 60]
     ensures { result ≡ schedule key.now }
 {
     let mut words = [0u32; 60];
-    for i in 0..8 {
-        words[i] = u32::from_be_bytes([key[4 * i], key[4 * i + 1], key[4 * i + 2], key[4 * i + 3]]);
+    for (i, bytes) in key.as_chunks::<4>().0.iter().enumerate() {
+        words[i] = u32::from_be_bytes(*bytes);
     }
+    // by index, since a word comes of two that stand before it in the same array
     for j in 8..60 {
         words[j] = words[j - 8] ^ carried(j, words[j - 1]);
     }

@@ -1,12 +1,12 @@
 // A block between two rounds.
-ghost use Rattle.std.specs.Prelude.{◌≡◌, ◌<◌, bit_xor};
-ghost use Rattle.aes.specs.Cipher.{add_round_key, last_round, load, mix_column, one_round, rounds, shifted, store};
+ghost use Rattle.std.specs.Prelude.{◌≡◌, bit_xor};
+ghost use Rattle.aes.specs.Cipher.{add_round_key, last_round, load, mix_column, mix_columns, rounds, shift_rows, shifted, store, sub_bytes};
 ghost use Rattle.aes.specs.Words.{sub_word};
 
 use crate::mixed::mixed;
 use sbox::sub_byte;
 
-// Its four columns.
+// Its four columns, by name: each column of a round takes from all four in turn, which no index says more plainly.
 #[derive(Clone, Copy)]
 pub struct State {
     c0: u32,
@@ -37,15 +37,15 @@ fn last_column(a: u32, b: u32, c: u32, d: u32, k: u32) -> u32
     u32::from_be_bytes([sub_byte(p), sub_byte(q), sub_byte(r), sub_byte(s)]) ^ k
 }
 
-fn one_round(words: &[u32; 60], r: usize, s: State) -> State
-    requires { r < 15 }
-    ensures { result ≡ one_round words.now r s }
+// A round that mixes, with its own round key.
+fn one_round(key: &[u32; 4], s: State) -> State
+    ensures { result ≡ add_round_key key.now 0 (mix_columns (shift_rows (sub_bytes s))) }
 {
     State {
-        c0: column(s.c0, s.c1, s.c2, s.c3, words[4 * r]),
-        c1: column(s.c1, s.c2, s.c3, s.c0, words[4 * r + 1]),
-        c2: column(s.c2, s.c3, s.c0, s.c1, words[4 * r + 2]),
-        c3: column(s.c3, s.c0, s.c1, s.c2, words[4 * r + 3]),
+        c0: column(s.c0, s.c1, s.c2, s.c3, key[0]),
+        c1: column(s.c1, s.c2, s.c3, s.c0, key[1]),
+        c2: column(s.c2, s.c3, s.c0, s.c1, key[2]),
+        c3: column(s.c3, s.c0, s.c1, s.c2, key[3]),
     }
 }
 
@@ -65,11 +65,8 @@ pub(crate) fn begun(words: &[u32; 60], block: u128) -> State
 pub(crate) fn mixing_rounds(words: &[u32; 60], s: State) -> State
     ensures { result ≡ rounds words.now 13 s }
 {
-    let mut t = s;
-    for r in 1..14 {
-        t = one_round(words, r, t);
-    }
-    t
+    let (keys, _) = words.as_chunks::<4>();
+    keys[1..14].iter().fold(s, |t, key| one_round(key, t))
 }
 
 pub(crate) fn last_round(words: &[u32; 60], s: State) -> State

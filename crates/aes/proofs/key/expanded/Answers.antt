@@ -10,7 +10,7 @@ loop-i-init c = (refl, refl)
 
 pub loop-i-preserved : goal.loop-i-preserved
 loop-i-preserved c =
-    (simp length-set c.loop-i.invariant.0, key_more c.loop-i.words c.args.key.now c.loop-i.i _ (omega arith) c.loop-i.invariant.1 c.from_be_bytes.ensures)
+    (simp length-set c.loop-i.invariant.0, key_more c.loop-i.words c.args.key.now _ _ c.loop-i.i _ (omega arith) (omega arith) c.as_chunks.ensures.front c.loop-i.invariant.1 c.from_be_bytes.ensures)
 
 pub loop-j-init : goal.loop-j-init
 unfolding expand
