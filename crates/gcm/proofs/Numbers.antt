@@ -1,8 +1,11 @@
 -- Blocks read from bytes, and the steps of the hash.
-use Rattle.std.proofs.Common.{◌≡◌, ℕ, zero, suc, ◌+◌, ◌*◌, ◌/◌, ◌%◌, ◌<◌, ◌≤◌, List, length, get_or, take, drop, replicate, sym, refl, ap, ◌∙◌, ap₂, arith}
+use Rattle.std.proofs.Common.{◌≡◌, ℕ, zero, suc, ◌+◌, ◌-◌, ◌*◌, ◌/◌, ◌%◌, ◌<◌, ◌≤◌, List, [], ◌++◌, length, get_or, take, drop, replicate, sym, refl, ap, ◌∙◌, ap₂, ⊎_elim, arith}
 use lib.Bits.{bit_xor}
-use Rattle.std.proofs.lemmas.List.{get_or-take}
+use Rattle.std.proofs.lemmas.List.{get_or-drop, get_or_past, get_or_append_left, get_or-append_right, drop-replicate}
+use Rattle.std.proofs.lemmas.Bool.{cases_lt}
 use Rattle.ghash.specs.Field.{product}
+use Rattle.aes.proofs.Chunks.{in_chunk}
+use Rattle.std.specs.Simd.{first_chunks}
 use Rattle.gcm.specs.Blocks.{number, block_at, block_bytes}
 use Rattle.gcm.specs.Gcm.{absorb, counter, key_byte, stream}
 use Rattle.gcm.proofs.Stream.{partly, partly_more}
@@ -13,8 +16,26 @@ unfolding number
 number_same xs ys agree =
     cc (agree 0 (omega arith), agree 1 (omega arith), agree 2 (omega arith), agree 3 (omega arith), agree 4 (omega arith), agree 5 (omega arith), agree 6 (omega arith), agree 7 (omega arith), agree 8 (omega arith), agree 9 (omega arith), agree 10 (omega arith), agree 11 (omega arith), agree 12 (omega arith), agree 13 (omega arith), agree 14 (omega arith), agree 15 (omega arith))
 
-pub number-take : (n : ℕ) (xs : List ℕ) → n ≡ 16 → number (take n xs) ≡ number xs
-number-take n xs e = number_same (take n xs) xs (λ k lt. get_or-take n xs k 0 (omega arith))
+zeros : (n j : ℕ) → ◌≡◌ {A = ℕ} (get_or (replicate n 0) j 0) 0
+zeros zero j = refl
+zeros (suc n) zero = refl
+zeros (suc n) (suc j) = zeros n j
+
+-- at most 16 bytes, written over the front of 16 zeros
+pub padding : (xs : List ℕ) (k : ℕ) → k ≡ length xs → k ≤ 16 → number (put_mid 0 k (replicate 16 0) xs) ≡ number xs
+padding xs k e h =
+    let f : put_mid 0 k (replicate 16 0) xs ≡ xs ++ replicate (16 - length xs) 0 = rw e (ap (λ r. xs ++ r) (drop-replicate (length xs) 16 0)) in
+    ap number f
+    ∙ number_same (xs ++ replicate (16 - length xs) 0) xs (λ j lt.
+    ⊎_elim (λ low. get_or_append_left xs (replicate (16 - length xs) 0) 0 j low)
+    (λ past. get_or-append_right xs (replicate (16 - length xs) 0) (length xs) j 0 refl past ∙ zeros (16 - length xs) (j - length xs) ∙ sym (get_or_past xs j 0 past))
+    (cases_lt j (length xs)))
+
+-- a whole block, read from its chunk
+pub number-chunk : (xs : List ℕ) (cs : List (List ℕ)) (n i : ℕ) → i < n → cs ≡ first_chunks 16 n xs → number (get_or cs i []) ≡ block_at xs i
+unfolding block_at
+number-chunk xs cs n i h e =
+    number_same (get_or cs i []) (drop (16 * i) xs) (λ k lt. in_chunk 16 n xs cs i k h lt e ∙ sym (get_or-drop (16 * i) xs k 0))
 
 -- one block more
 pub absorb-more : (h y z i : ℕ) (xs : List ℕ) → z ≡ absorb h xs i y → product (bit_xor z (block_at xs i)) h ≡ absorb h xs (i + 1) y
@@ -22,11 +43,6 @@ unfolding absorb
 absorb-more h y z i xs e =
     let up : i + 1 ≡ suc i = omega arith in
     ap (λ (w : ℕ). product (bit_xor w (block_at xs i)) h) e ∙ ap (λ (n : ℕ). absorb h xs n y) (sym up)
-
-pub zeros : (n j : ℕ) → ◌≡◌ {A = ℕ} (get_or (replicate n 0) j 0) 0
-zeros zero j = refl
-zeros (suc n) zero = refl
-zeros (suc n) (suc j) = zeros n j
 
 -- byte k of block i of the key stream
 pub key_agrees : (E : ℕ → ℕ) (iv : List ℕ) (n i k : ℕ) → k < 16 → get_or (block_bytes (E (counter iv (i + n)))) k 0 ≡ key_byte E iv n (16 * i + k)

@@ -6,7 +6,7 @@ ghost use Rattle.gcm.specs.Gcm.{gctr, encrypted, tag_of, decrypted};
 ghost use Rattle.octets.specs.Fronts.{fits, placed};
 ghost use Rattle.std.specs.Option.{unwrap_or};
 
-use crate::blocks::{add_block, add_stream, iv_block};
+use crate::blocks::{add, add_block, iv_block};
 use crate::hash::hash_all;
 use aes::Aes256;
 use ghash::Multiplier;
@@ -100,13 +100,12 @@ impl Gcm {
     {
         let base = iv_block(iv);
         let full = text.len() / 16;
-        let rest = text.len() % 16;
         for i in 0..full {
             let block = self.counter_block(base, i + first);
             add_block(&mut text[16 * i..16 * i + 16], block);
         }
         let ks = self.counter_block(base, full + first).to_be_bytes();
-        add_stream(&mut text[16 * full..16 * full + rest], ks);
+        add(&mut text[16 * full..], ks);
     }
 
     fn tag(&self, iv: &[u8; 12], added: &[u8], body: &[u8]) -> [u8; 12]
@@ -114,7 +113,8 @@ impl Gcm {
     {
         let mask = self.counter_block(iv_block(iv), 1);
         let full = (mask ^ hash_all(&self.hash, added, body)).to_be_bytes();
-        let [a, b, c, d, e, f, g, h, i, j, k, l, _, _, _, _] = full;
-        [a, b, c, d, e, f, g, h, i, j, k, l]
+        let mut tag = [0; 12];
+        tag.copy_from_slice(&full[0..12]);
+        tag
     }
 }

@@ -2,19 +2,19 @@
 ghost use Rattle.std.specs.Prelude.{◌≡◌, ◌+◌, ◌*◌, ◌%◌, ◌^◌};
 ghost use Rattle.gcm.specs.Gcm.{absorb, ghash, blocks};
 
-use crate::blocks::{full_block, last_block};
+use crate::blocks::padded;
 use ghash::Multiplier;
 
 fn absorb_bytes(hash: &Multiplier, xs: &[u8], y: u128) -> u128
     ensures { result ≡ absorb hash.now.h xs.now (blocks xs.now) y }
 {
-    let full = xs.len() / 16;
+    let (full, rest) = xs.as_chunks::<16>();
     let mut z = y;
-    for i in 0..full {
-        z = hash.times(z ^ full_block(xs, i));
+    for block in full {
+        z = hash.times(z ^ u128::from_be_bytes(*block));
     }
-    if xs.len() % 16 != 0 {
-        z = hash.times(z ^ last_block(xs, full));
+    if !rest.is_empty() {
+        z = hash.times(z ^ padded(rest));
     }
     z
 }
