@@ -100,6 +100,7 @@ impl Gcm {
     {
         let base = iv_block(iv);
         let full = text.len() / 16;
+        // by index, since the library says of no chunks that are written what the text is after them
         for i in 0..full {
             let block = self.counter_block(base, i + first);
             add_block(&mut text[16 * i..16 * i + 16], block);
