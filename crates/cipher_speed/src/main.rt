@@ -2,7 +2,7 @@
 // MESSAGES MiB in messages of 1,024 bytes with 32 bytes of additional data.
 #![tactic(auto)]
 
-use anyhow::anyhow;
+use anyhow::Context;
 use cases::Hex;
 use gcm::Gcm;
 use std::env;
@@ -21,10 +21,9 @@ fn chain(gcm: &Gcm, additional: &[u8], text: &mut [u8], mebibytes: u32, each: u3
     tag
 }
 
+// Not shared with speed, whose usage is another: a crate for one line is no plainer.
 fn amount(word: Option<String>) -> anyhow::Result<u32> {
-    let Some(word) = word else {
-        return Err(anyhow!("usage: cipher_speed STREAM MESSAGES, both in MiB"));
-    };
+    let word = word.context("usage: cipher_speed STREAM MESSAGES, both in MiB")?;
     Ok(word.parse::<u32>()?)
 }
 

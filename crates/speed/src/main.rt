@@ -2,7 +2,7 @@
 // MESSAGES MiB in messages of 1,024 bytes comes to.
 #![tactic(auto)]
 
-use anyhow::anyhow;
+use anyhow::Context;
 use octets::hexadecimal;
 use std::env;
 
@@ -39,17 +39,13 @@ fn chain(mebibytes: u32) -> [u8; 32] {
 }
 
 fn show(rt: &impl Print, digest: [u8; 32]) -> anyhow::Result<()> {
-    for character in hexadecimal(&digest) {
-        rt.print(char::from(character))?;
-    }
-    rt.println("")?;
+    println!(rt; "{}", str::from_utf8(&hexadecimal(&digest))?)?;
     Ok(())
 }
 
+// Not shared with cipher_speed, whose usage is another: a crate for one line is no plainer.
 fn amount(word: Option<String>) -> anyhow::Result<u32> {
-    let Some(word) = word else {
-        return Err(anyhow!("usage: speed STREAM MESSAGES, both in MiB"));
-    };
+    let word = word.context("usage: speed STREAM MESSAGES, both in MiB")?;
     Ok(word.parse::<u32>()?)
 }
 

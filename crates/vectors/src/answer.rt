@@ -12,10 +12,8 @@ impl fmt::Display for Answered {
     fn fmt<W: fmt::Write>(&self, f: &mut fmt::Formatter<W>) -> fmt::Result {
         match self {
             Answered::Digest(digest) => {
-                for character in hexadecimal(digest) {
-                    f.write_char(char::from(character))?;
-                }
-                Ok(())
+                let text = hexadecimal(digest);
+                f.write_str(str::from_utf8(&text).map_err(|_| fmt::Error)?)
             }
             Answered::Same(same) => write!(f, "{same}"),
         }

@@ -7,11 +7,7 @@ use std::alloc::Global;
 
 // The bytes of each word.
 fn every(heap: Global, words: &[&str]) -> Result<Vec<Vec<u8>>, Fault> {
-    let mut all = Vec::new(heap);
-    for word in words {
-        all.push(bytes(heap, word)?)?;
-    }
-    Ok(all)
+    words.iter().map(|word| bytes(heap, word)).try_collect(heap)
 }
 
 fn sha256(parts: &[Vec<u8>]) -> Result<Answered, Fault> {
