@@ -1,7 +1,7 @@
 // A block between two rounds.
-ghost use Rattle.std.specs.Prelude.{◌≡◌, bit_xor};
+ghost use Rattle.std.specs.Prelude.{◌≡◌, [], ◌∷◌, bit_xor};
 ghost use Rattle.aes.specs.Cipher.{add_round_key, last_round, load, mix_column, mix_columns, rounds, shift_rows, shifted, store, sub_bytes};
-ghost use Rattle.aes.specs.Words.{sub_word};
+ghost use Rattle.aes.specs.Words.{byte0, byte1, byte2, byte3, sub_word};
 
 use crate::mixed::mixed;
 use sbox::sub_byte;
@@ -15,14 +15,22 @@ pub struct State {
     c3: u32,
 }
 
-// One column of a round: the mixed bytes, each turned to its row, and the round key.
-fn column(a: u32, b: u32, c: u32, d: u32, k: u32) -> u32
-    ensures { result ≡ bit_xor (mix_column (shifted (sub_word a) (sub_word b) (sub_word c) (sub_word d))) k }
+// The bytes of a column whose rows moved: one of each of four columns.
+fn shifted(a: u32, b: u32, c: u32, d: u32) -> [u8; 4]
+    ensures { result ≡ byte0 a ∷ byte1 b ∷ byte2 c ∷ byte3 d ∷ [] }
 {
     let [p, _, _, _] = a.to_be_bytes();
     let [_, q, _, _] = b.to_be_bytes();
     let [_, _, r, _] = c.to_be_bytes();
     let [_, _, _, s] = d.to_be_bytes();
+    [p, q, r, s]
+}
+
+// One column of a round: the mixed bytes, each turned to its row, and the round key.
+fn column(a: u32, b: u32, c: u32, d: u32, k: u32) -> u32
+    ensures { result ≡ bit_xor (mix_column (shifted (sub_word a) (sub_word b) (sub_word c) (sub_word d))) k }
+{
+    let [p, q, r, s] = shifted(a, b, c, d);
     mixed(p) ^ mixed(q).rotate_right(8) ^ mixed(r).rotate_right(16) ^ mixed(s).rotate_right(24) ^ k
 }
 
@@ -30,10 +38,7 @@ fn column(a: u32, b: u32, c: u32, d: u32, k: u32) -> u32
 fn last_column(a: u32, b: u32, c: u32, d: u32, k: u32) -> u32
     ensures { result ≡ bit_xor (shifted (sub_word a) (sub_word b) (sub_word c) (sub_word d)) k }
 {
-    let [p, _, _, _] = a.to_be_bytes();
-    let [_, q, _, _] = b.to_be_bytes();
-    let [_, _, r, _] = c.to_be_bytes();
-    let [_, _, _, s] = d.to_be_bytes();
+    let [p, q, r, s] = shifted(a, b, c, d);
     u32::from_be_bytes([sub_byte(p), sub_byte(q), sub_byte(r), sub_byte(s)]) ^ k
 }
 

@@ -22,7 +22,7 @@ pub(crate) fn iv_block(iv: &[u8; 12]) -> u128
 }
 
 // Adds a key stream of N bytes to at most as many.
-pub(crate) fn add<const N: usize>(part: &mut [u8], ks: [u8; N])
+pub(crate) fn add_stream<const N: usize>(part: &mut [u8], ks: [u8; N])
     requires { length part.old ≤ N }
     ensures { part.new ≡ stream (λ k. slice_index ks.entry k) 0 part.old }
 {
@@ -38,6 +38,6 @@ pub(crate) fn add_block(part: &mut [u8], block: u128)
 {
     let high = ((block >> 64) as u64).to_be_bytes();
     let low = ((block & 0xffff_ffff_ffff_ffff) as u64).to_be_bytes();
-    add(&mut part[0..8], high);
-    add(&mut part[8..16], low);
+    add_stream(&mut part[0..8], high);
+    add_stream(&mut part[8..16], low);
 }

@@ -6,7 +6,7 @@ ghost use Rattle.gcm.specs.Gcm.{gctr, encrypted, tag_of, decrypted};
 ghost use Rattle.octets.specs.Fronts.{fits, placed};
 ghost use Rattle.std.specs.Option.{unwrap_or};
 
-use crate::blocks::{add, add_block, iv_block};
+use crate::blocks::{add_block, add_stream, iv_block};
 use crate::hash::hash_all;
 use aes::Aes256;
 use ghash::Multiplier;
@@ -106,7 +106,7 @@ impl Gcm {
             add_block(&mut text[16 * i..16 * i + 16], block);
         }
         let ks = self.counter_block(base, full + first).to_be_bytes();
-        add(&mut text[16 * full..], ks);
+        add_stream(&mut text[16 * full..], ks);
     }
 
     fn tag(&self, iv: &[u8; 12], added: &[u8], body: &[u8]) -> [u8; 12]

@@ -21,6 +21,7 @@ pub(crate) fn derive(password: &[u8], salt: &[u8], rounds: u32) -> [u8; 32]
     first.update(&[0, 0, 0, 1]);
     let mut last = first.finish();
     let mut sum = last;
+    // the round has a name, which the proof counts by
     for _round in 1..rounds {
         let mut next = keyed;
         next.update(&last);

@@ -4,11 +4,11 @@ use Rattle.aes.proofs.Columns.{shifted_sub}
 use Rattle.aes.proofs.state.last_column.Goals as goal
 
 pub returns : goal.returns
-unfolding word byte0 byte1 byte2 byte3
+unfolding word
 returns c =
     let x = c.args in
-    let p : get_or c.to_be_bytes.result 0 0 ≡ byte0 x.a = ap (λ (l : List ℕ). get_or l 0 0) c.to_be_bytes.ensures in
-    let q : get_or c.to_be_bytes-2.result 1 0 ≡ byte1 x.b = ap (λ (l : List ℕ). get_or l 1 0) c.to_be_bytes-2.ensures in
-    let r : get_or c.to_be_bytes-3.result 2 0 ≡ byte2 x.c = ap (λ (l : List ℕ). get_or l 2 0) c.to_be_bytes-3.ensures in
-    let s : get_or c.to_be_bytes-4.result 3 0 ≡ byte3 x.d = ap (λ (l : List ℕ). get_or l 3 0) c.to_be_bytes-4.ensures in
+    let p : get_or c.shifted.result 0 0 ≡ byte0 x.a = ap (λ (l : List ℕ). get_or l 0 0) c.shifted.ensures in
+    let q : get_or c.shifted.result 1 0 ≡ byte1 x.b = ap (λ (l : List ℕ). get_or l 1 0) c.shifted.ensures in
+    let r : get_or c.shifted.result 2 0 ≡ byte2 x.c = ap (λ (l : List ℕ). get_or l 2 0) c.shifted.ensures in
+    let s : get_or c.shifted.result 3 0 ≡ byte3 x.d = ap (λ (l : List ℕ). get_or l 3 0) c.shifted.ensures in
     cc (shifted_sub x.a x.b x.c x.d)

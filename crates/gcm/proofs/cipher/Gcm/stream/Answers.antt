@@ -37,6 +37,6 @@ returns c =
     let so_far : c.loop-i.text ≡ partly (key_byte E iv n) (16 * i) b = c.loop-i.invariant ∙ ap (λ (j : ℕ). partly (key_byte E iv n) (16 * j) b) last in
     let block : c.counter_block.result ≡ E (counter iv (i + n)) = cc c.counter_block.ensures in
     let key : c.to_be_bytes-ks.result ≡ block_bytes (E (counter iv (i + n))) = c.to_be_bytes-ks.ensures ∙ ap block_bytes block in
-    part_done E iv n i r (length c.loop-i.text - 16 * i) c.loop-i.text b c.add.new.part c.to_be_bytes-ks.result
-    (omega arith) (omega arith) (omega arith) so_far key c.add.ensures
+    part_done E iv n i r (length c.loop-i.text - 16 * i) c.loop-i.text b c.add_stream.new.part c.to_be_bytes-ks.result
+    (omega arith) (omega arith) (omega arith) so_far key c.add_stream.ensures
     ∙ partly-all (key_byte E iv n) (16 * i + r) b (omega arith)

@@ -1,7 +1,7 @@
 use Rattle.std.proofs.Common.{get_or, refl, ◌∙◌, arith}
 use Rattle.gcm.specs.Gcm.{stream}
 use Rattle.gcm.proofs.Stream.{partly-one, partly-all}
-use Rattle.gcm.proofs.blocks.add.Goals as goal
+use Rattle.gcm.proofs.blocks.add_stream.Goals as goal
 
 pub loop-k-init : goal.loop-k-init
 unfolding stream
