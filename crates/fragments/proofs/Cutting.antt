@@ -1,20 +1,16 @@
 -- There is one way to cut a file.
-use Rattle.std.proofs.Common.{◌≡◌, ℕ, zero, suc, ◌+◌, ◌-◌, ◌/◌, ◌<◌, ◌≤◌, Bool, true, false, ◌&&◌, eqb, ltb, leb, List, [], ◌∷◌, ◌++◌, length, take, drop, sym, refl, ap, ◌∙◌, append-nil, arith, length-append, length-drop, take-append-drop, length-take, ltb-true, lt-ltb, eq-eqb, eqb-true, le-leb, leb-true}
-use borrow.Author.Tests.{clash}
+use Rattle.std.proofs.Common.{◌≡◌, ℕ, zero, suc, ◌+◌, ◌-◌, ◌/◌, ◌<◌, ◌≤◌, true, false, eqb, ltb, leb, List, [], ◌∷◌, ◌++◌, length, take, drop, sym, refl, ap, ◌∙◌, append-nil, arith, length-append, length-drop, take-append-drop, length-take, ltb-true, lt-ltb, eq-eqb, eqb-true, le-leb, leb-true}
+use Rattle.std.proofs.lemmas.Bool.{and_parts}
 use Rattle.std.proofs.lemmas.List.{take_at, drop_at}
 use Rattle.fragments.specs.Cuts.{joined, in_turn, cut_after, cut, OneWayToCut}
 use Rattle.fragments.specs.Rule.{fits}
 
-pub both : (p q : Bool) → (p && q) ≡ true → (p ≡ true) × (q ≡ true)
-both true q e = (refl, e)
-both false q e = absurd (clash e)
-
 -- What a fragment that fits is like, and back.
 pub last_fits : (n s k : ℕ) → fits n s k true ≡ true → (k ≤ 1024) × (n + k ≡ s)
-last_fits n s k e = let h = both (leb k 1024) (eqb (n + k) s) e in (leb-true k 1024 h.0, eqb-true (n + k) s h.1)
+last_fits n s k e = let h = and_parts (leb k 1024) (eqb (n + k) s) e in (leb-true k 1024 h.0, eqb-true (n + k) s h.1)
 
 pub full_fits : (n s k : ℕ) → fits n s k false ≡ true → (k ≡ 1024) × (n + 1024 < s)
-full_fits n s k e = let h = both (eqb k 1024) (ltb (n + 1024) s) e in (eqb-true k 1024 h.0, ltb-true (n + 1024) s h.1)
+full_fits n s k e = let h = and_parts (eqb k 1024) (ltb (n + 1024) s) e in (eqb-true k 1024 h.0, ltb-true (n + 1024) s h.1)
 
 pub fits_last : (n s k : ℕ) → k ≤ 1024 → n + k ≡ s → fits n s k true ≡ true
 fits_last n s k h e = rw (le-leb k 1024 h, eq-eqb (n + k) s e)
@@ -32,7 +28,7 @@ cut_from_turn n s d [] e t =
     rw (append-nil d, q)
 cut_from_turn n s d (x ∷ ds) e t =
     let r = joined (x ∷ ds) in
-    let b = both (fits n s (length d) false) (in_turn (n + length d) s x ds) t in
+    let b = and_parts (fits n s (length d) false) (in_turn (n + length d) s x ds) t in
     let f = full_fits n s (length d) b.0 in
     let l : length (d ++ r) ≡ length d + length r = length-append d r in
     let i : x ∷ ds ≡ cut r = cut_from_turn (n + length d) s x ds (omega arith) b.1 in

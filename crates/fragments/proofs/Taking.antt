@@ -4,6 +4,7 @@ use Rattle.digest.specs.Running.{absorb, finished}
 use Rattle.digest.specs.Sha256.{sha256}
 use Rattle.digest.proofs.Pieces.{joins, comes_to_digest}
 use Rattle.octets.specs.Equality.{same}
+use Rattle.std.proofs.lemmas.Bool.{and_parts}
 use Rattle.octets.proofs.Agreement.{same_decides}
 use Rattle.fragments.specs.declared.refusal.FragmentRefusal.{FragmentRefusal}
 use Rattle.fragments.specs.declared.refusal.FragmentRefusal.TheVariants.{SizeRule, Digest}
@@ -11,7 +12,7 @@ use Rattle.fragments.specs.Cuts.{joined, in_turn}
 use Rattle.fragments.specs.Progresses.{Standing, begun, advanced}
 use Rattle.fragments.specs.Rule.{fits}
 use Rattle.fragments.specs.Wholes.{taken, WholeAsAnnounced}
-use Rattle.fragments.proofs.Cutting.{both, last_fits, cut_from_turn, one_way_to_cut}
+use Rattle.fragments.proofs.Cutting.{last_fits, cut_from_turn, one_way_to_cut}
 
 -- The verdict on the last fragment, by its two tests.
 abbrev ending : Bool → Result Bool FragmentRefusal
@@ -47,7 +48,7 @@ both-pass false q e = let z : ◌≡◌ {A = ℕ} 0 1 = cc in absurd (omega arit
 turn_ends : (n s : ℕ) (d : List ℕ) (ds : List (List ℕ)) → in_turn n s d ds ≡ true → n + length (joined (d ∷ ds)) ≡ s
 turn_ends n s d [] t = rw (append-nil d) (last_fits n s (length d) t).1
 turn_ends n s d (e ∷ ds) t =
-    let b = both (fits n s (length d) false) (in_turn (n + length d) s e ds) t in
+    let b = and_parts (fits n s (length d) false) (in_turn (n + length d) s e ds) t in
     let i = turn_ends (n + length d) s e ds b.1 in
     let l : length (d ++ joined (e ∷ ds)) ≡ length d + length (joined (e ∷ ds)) = length-append d (joined (e ∷ ds)) in
     omega arith

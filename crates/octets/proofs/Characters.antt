@@ -1,5 +1,5 @@
 -- Two characters more of a digest's text.
-use Rattle.std.proofs.Common.{◌≡◌, ℕ, zero, suc, ◌+◌, ◌*◌, ◌/◌, ◌%◌, ◌<◌, List, [], ◌∷◌, ◌++◌, length, get_or, take, set, sym, refl, ap, ◌∙◌, append_assoc, add-one, arith, length-set, take_all}
+use Rattle.std.proofs.Common.{◌≡◌, ℕ, zero, suc, ◌+◌, ◌*◌, ◌/◌, ◌%◌, ◌<◌, List, [], ◌∷◌, ◌++◌, length, get_or, take, set, sym, refl, ap, ◌∙◌, append_assoc, add-one, arith, length-set}
 use Rattle.std.proofs.lemmas.List.{take_more_set}
 use Rattle.octets.specs.Hexadecimal.{digit, hexadecimal}
 
@@ -23,6 +23,3 @@ text-more bs ts i x y h k l e f g =
           ∙ rw (g, e, f, add-one) (sym (hexadecimal-more bs i h)),
       length-set s (2 * i + 1) y ∙ m,
     )
-
-pub text-all : (bs ts : List ℕ) (i : ℕ) → i ≡ 32 → length bs ≡ 32 → length ts ≡ 64 → take (2 * i) ts ≡ hexadecimal (take i bs) → ts ≡ hexadecimal bs
-text-all bs ts i e k l g = sym (take_all (2 * i) ts (omega arith)) ∙ g ∙ ap hexadecimal (take_all i bs (omega arith))

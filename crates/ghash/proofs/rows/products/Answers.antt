@@ -16,6 +16,3 @@ loop-place-preserved c =
       length-set _ _ _ ∙ c.loop-place.invariant.1,
       rows_more j c.args.h c.loop-place.v c.row.result c.loop-place.place-items (omega arith) c.loop-place.invariant.0 c.loop-place.invariant.2 c.row.ensures,
     )
-
-pub returns : goal.returns
-returns c j lt = c.loop-place.invariant.2 j (omega arith)

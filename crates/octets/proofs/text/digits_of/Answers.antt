@@ -1,6 +1,6 @@
 use Rattle.std.proofs.Common.{refl, arith}
 use Rattle.octets.specs.Hexadecimal.{hexadecimal}
-use Rattle.octets.proofs.Characters.{text-more, text-all}
+use Rattle.octets.proofs.Characters.{text-more}
 use Rattle.octets.proofs.text.digits_of.Goals as goal
 
 pub loop-i-init : goal.loop-i-init
@@ -11,6 +11,3 @@ pub loop-i-preserved : goal.loop-i-preserved
 loop-i-preserved c =
     text-more c.args.digest.now c.loop-i.text c.loop-i.i c.digit.result c.digit-in-loop-i.result (omega arith)
     c.told-digest c.loop-i.invariant.1 c.digit.ensures c.digit-in-loop-i.ensures c.loop-i.invariant.0
-
-pub returns : goal.returns
-returns c = text-all c.args.digest.now c.loop-i.text c.loop-i.i (omega arith) c.told-digest c.loop-i.invariant.1 c.loop-i.invariant.0
