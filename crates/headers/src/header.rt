@@ -6,6 +6,7 @@ use kinds::MessageRefusal;
 
 #[derive(Clone, Copy)]
 pub struct Header {
+    // a number and no kind: a code of no kind passes here, and fails at the type check
     pub code: u16,
     pub length: u16,
     pub number: u16,
@@ -16,7 +17,7 @@ pub struct Header {
 fn length_fits(size: usize, code: u16, told: u16) -> bool
     ensures { result ≡ length_fits size code told }
 {
-    size >= 28 && size <= 4124 && told as usize == size && (code > 0 || size >= 135)
+    (28..=4124).contains(&size) && told as usize == size && (code > 0 || size >= 135)
 }
 
 impl Header {
