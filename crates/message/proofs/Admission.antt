@@ -1,12 +1,12 @@
 -- What a message's header, type and number come to.
-use Rattle.std.proofs.Common.{◌≡◌, ℕ, ◌-◌, ◌≤◌, Bool, true, false, cond, List, length, Ok, Err, Result, sym, refl, ap, ◌∙◌, arith}
+use Rattle.std.proofs.Common.{◌≡◌, ℕ, ◌-◌, ◌≤◌, true, List, length, Ok, Result, sym, ap, ◌∙◌, arith}
 use Rattle.std.proofs.lemmas.Bool.Decides.{nat_tests}
 use Rattle.kinds.specs.declared.kind.Kind.{Kind}
 use Rattle.kinds.specs.declared.refusal.MessageRefusal.{MessageRefusal}
-use Rattle.kinds.specs.declared.refusal.MessageRefusal.TheVariants.{Length, Version, Reserved}
 use Rattle.kinds.specs.Kinds.{trailer, found, numbered}
 use Rattle.headers.specs.declared.header.Header.{Header}
 use Rattle.headers.specs.Headers.{field, header_of, length_fits, right_length, right_version, reserved_zero, headed}
+use Rattle.headers.proofs.Bytes.{passed}
 use Rattle.message.specs.Messages.{by_number, by_kind, by_header, admitted}
 
 module _ (e : List Kind) (last : ℕ) (m : List ℕ) where
@@ -21,20 +21,12 @@ module _ (e : List Kind) (last : ℕ) (m : List ℕ) where
       → q ≡ numbered k last h.number → admitted e last m ≡ by_number m h k q
   admitted-by_number h k q f g i = admitted-by_kind h (Ok k) f g ∙ ap (by_number m h k) (sym i)
 
-passed : (a b c : Bool) (x h : Header)
-    → ◌≡◌ {A = Result Header MessageRefusal} (Ok h) (cond a (cond b (cond c (Ok x) (Err Reserved)) (Err Version)) (Err Length))
-    → (a ≡ true) × (h ≡ x)
-passed true true true x h e = (refl, cc)
-passed true true false x h e = let z : ◌≡◌ {A = ℕ} 0 1 = cc in absurd (omega arith)
-passed true false c x h e = let z : ◌≡◌ {A = ℕ} 0 1 = cc in absurd (omega arith)
-passed false b c x h e = let z : ◌≡◌ {A = ℕ} 0 1 = cc in absurd (omega arith)
-
 long : (n k t : ℕ) → length_fits n k t ≡ true → (28 ≤ n - trailer k) × (n ≤ 4124) × (trailer k ≤ n)
 long n k t e = grind (arith, nat_tests)
 
 -- A message with a header is long enough for its kind, and not too long.
 pub bounded : (m : List ℕ) (h : Header) → Ok h ≡ headed m → (28 ≤ length m - trailer h.code) × (length m ≤ 4124) × (trailer h.code ≤ length m)
 bounded m h e =
-    let p = passed (right_length m) (right_version m) (reserved_zero m) (header_of m) h e in
-    let k : h.code ≡ field m 2 = ap (λ (x : Header). x.code) p.1 in
+    let p = passed (right_length m) (right_version m) (reserved_zero m) (header_of m) h (sym e) in
+    let k : h.code ≡ field m 2 = ap (λ (x : Header). x.code) p.3 in
     rw k (long (length m) (field m 2) (field m 4) p.0)
