@@ -30,7 +30,7 @@ reads h rest s f =
     rw (l, c, t, n, six h.random s.random, f)
 
 -- What a header that was read went through.
-pub passed : (a b c : Bool) (x h : Header)
+passed : (a b c : Bool) (x h : Header)
     → ◌≡◌ {A = Result Header MessageRefusal} (cond a (cond b (cond c (Ok x) (Err Reserved)) (Err Version)) (Err Length)) (Ok h)
     → (a ≡ true) × (b ≡ true) × (c ≡ true) × (h ≡ x)
 passed true true true x h e = (refl, refl, refl, cc)

@@ -12,7 +12,6 @@ use Rattle.message.specs.declared.receiving.Received.{Received}
 use Rattle.message.specs.Meaning.{Sealing, Opening}
 use Rattle.message.specs.Messages.{heading, message, Message, admitted, opens, received, told, text_after}
 use Rattle.message.specs.Trip.{Proper, ReadsBack}
-use Rattle.message.proofs.Admission.{admitted-by_number}
 use Rattle.message.proofs.Opening.{received-by_admitted}
 
 code_small : (k : Kind) → code k < 2 ^ 16
@@ -97,9 +96,8 @@ module _ (s : Sealing) (o : Opening)
       (rw f (may (code k) (length payload) (length after) proper.follows proper.one))
 
   let_in : admitted e last m ≡ Ok (record { kind = k; number = n; end = length m - trailer (code k) })
-  let_in =
-      admitted-by_number e last m (heading (code k) n random (length payload) (length after)) k (Ok n) (sym header_read) (sym proper.awaited)
-      (sym (rw proper.next))
+  unfolding admitted
+  let_in = rw (header_read, proper.awaited, proper.next)
 
   is_parts : m ≡ header_bytes (heading (code k) n random (length payload) (length after))
       ++ ((s (header_bytes (heading (code k) n random (length payload) (length after))) payload).0

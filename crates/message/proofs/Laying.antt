@@ -1,22 +1,13 @@
 -- Four writes lay a message out.
-use Rattle.std.proofs.Common.{◌≡◌, ℕ, ◌+◌, ◌<◌, ◌≤◌, true, false, leb, List, ◌++◌, length, drop, Ok, Err, ap, ◌∙◌, append_assoc, arith}
+use Rattle.std.proofs.Common.{◌≡◌, ℕ, ◌+◌, ◌≤◌, true, leb, List, ◌++◌, length, drop, Ok, ap, ◌∙◌, append_assoc, arith}
 use Rattle.std.proofs.lemmas.List.{drop-drop}
-use Rattle.std.proofs.lemmas.Bool.{le-leb, lt-leb}
-use Rattle.kinds.specs.declared.refusal.MessageRefusal.TheVariants.{Buffer, Payload}
+use Rattle.std.proofs.lemmas.Bool.{le-leb}
 use Rattle.headers.specs.Headers.{header_bytes}
 use Rattle.message.specs.Meaning.{Sealing}
 use Rattle.message.specs.Messages.{heading, message, written}
 
 module _ (s : Sealing) (c n : ℕ) (random p a old : List ℕ) where
-  pub no_room : length old < 4124 → written s c n random p a old ≡ record { answer = Err Buffer; output = old }
-  unfolding written
-  no_room h = let e = lt-leb 4124 (length old) h in rw e
-
-  pub too_long : 4124 ≤ length old → leb (28 + length p + length a) 4124 ≡ false → written s c n random p a old ≡ record { answer = Err Payload; output = old }
-  unfolding written
-  too_long h f = let e = le-leb 4124 (length old) h in rw (e, f)
-
-  pub goes : 4124 ≤ length old → leb (28 + length p + length a) 4124 ≡ true
+  goes : 4124 ≤ length old → leb (28 + length p + length a) 4124 ≡ true
       → written s c n random p a old
       ≡ record { answer = Ok (28 + length p + length a); output = message s c n random p a ++ drop (28 + length p + length a) old }
   unfolding written

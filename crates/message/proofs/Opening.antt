@@ -1,20 +1,16 @@
 -- What a message past its checks opens to.
-use Rattle.std.proofs.Common.{◌≡◌, ℕ, ◌-◌, ◌<◌, ◌≤◌, true, false, List, length, take, drop, ◌+◌, ap, Some, None, Ok, Err, Option, Result, sym, refl, ◌∙◌, arith, length-drop, length-take}
+use Rattle.std.proofs.Common.{◌≡◌, ℕ, ◌-◌, ◌≤◌, true, false, List, length, take, drop, ◌+◌, ap, Some, None, Ok, Err, Option, Result, sym, refl, ◌∙◌, arith, length-drop, length-take}
 use Rattle.std.proofs.lemmas.List.{drop-drop, drop-take, take-take}
-use Rattle.std.proofs.lemmas.Bool.{le-leb, lt-leb, false≢true}
+use Rattle.std.proofs.lemmas.Bool.{le-leb, false≢true}
 use Rattle.kinds.specs.declared.kind.Kind.{Kind}
 use Rattle.kinds.specs.declared.refusal.MessageRefusal.{MessageRefusal}
-use Rattle.kinds.specs.declared.refusal.MessageRefusal.TheVariants.{Buffer, Unopened}
+use Rattle.kinds.specs.declared.refusal.MessageRefusal.TheVariants.{Unopened}
 use Rattle.message.specs.declared.receiving.Admitted.{Admitted}
 use Rattle.message.specs.Meaning.{Opening}
 use Rattle.octets.specs.Fronts.{fits, placed}
 use Rattle.message.specs.Messages.{admitted, opens, by_opened, by_admitted, received, told, text_after}
 
 module _ (o : Opening) (e : List Kind) (last : ℕ) (m old : List ℕ) where
-  pub no_room : length old < 4096 → received o e last m old ≡ Err Buffer
-  unfolding received
-  no_room h = let f = lt-leb 4096 (length old) h in rw f
-
   pub received-by_admitted : (q : Result Admitted MessageRefusal) → 4096 ≤ length old → q ≡ admitted e last m → received o e last m old ≡ by_admitted o m q
   unfolding received
   received-by_admitted q h f = let g = le-leb 4096 (length old) h in rw (g, ← f)

@@ -19,6 +19,7 @@ pub struct Awaited<'a> {
 impl Awaited<'_> {
     // Receives an expected message: refusals 3 and 7 to 12 leave the text untouched; else the payload stands at its front. What
     // was written is read back.
+    #[tactic(auto, unfolding(crate::specs::Messages::received))]
     pub fn receive<S: Seal>(
         &self,
         seal: &S,
@@ -42,6 +43,7 @@ impl Awaited<'_> {
     }
 
     // Refusals 7 to 11.
+    #[tactic(auto, unfolding(crate::specs::Messages::admitted))]
     fn admit(&self, message: &[u8]) -> Result<Admitted, MessageRefusal>
         ensures value { result ≡ admitted self.now.kinds.now self.now.last message.now }
         ensures bounds { IfOk result (λ a. (28 ≤ a.end) × (a.end ≤ length message.now) × (length message.now ≤ 4124)) }

@@ -18,6 +18,7 @@ pub struct Outgoing<'a> {
 
 impl Outgoing<'_> {
     // Writes the message at the front of the output, and answers its length: refusals 3 and 5 leave the output untouched.
+    #[tactic(auto, unfolding(crate::specs::Messages::written, crate::specs::Messages::message))]
     pub fn write<S: Seal>(&self, seal: &S, out: &mut [u8]) -> Result<usize, MessageRefusal>
         ensures answer { result ≡ (sent (S.sealing seal.now) self.now out.old).answer }
         ensures output { out.new ≡ (sent (S.sealing seal.now) self.now out.old).output }

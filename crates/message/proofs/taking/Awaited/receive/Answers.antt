@@ -1,19 +1,10 @@
 use Rattle.std.proofs.Common.{◌-◌, ◌≤◌, length, Ok, Err, sym, refl, ap, ◌∙◌, arith}
 use Rattle.std.proofs.lemmas.Result.{err_from_is_err_and}
-use Rattle.kinds.specs.declared.refusal.MessageRefusal.TheVariants.{Buffer, Unopened}
+use Rattle.kinds.specs.declared.refusal.MessageRefusal.TheVariants.{Unopened}
 use Rattle.message.specs.Messages.{opens, by_opened}
-use Rattle.message.proofs.Opening.{no_room, received-by_admitted, opens-length, not_opened, opened}
+use Rattle.message.proofs.Opening.{received-by_admitted, opens-length, not_opened, opened}
 use Rattle.message.proofs.Back.{settled}
 use Rattle.message.proofs.taking.Awaited.receive.Goals as goal
-
-pub returns-then-text-lt4096 : goal.returns-then-text-lt4096
-returns-then-text-lt4096 g c =
-    let x = c.args in
-    let k = x.seal.now in
-    let w = no_room (g.S.Seal.opening k) x.self.now.kinds.now x.self.now.last x.message.now x.text.now c.if-text-lt4096.true in
-    let z = settled (g.S.Seal.sealing k) (g.S.Seal.opening k) (g.met.S.Seal.reopens k) (g.met.S.Seal.level k) (g.met.S.Seal.twelve k)
-    x.self.now.kinds.now x.self.now.last x.message.now x.text.now _ _ (Err Buffer) w refl refl in
-    record { answer = z.0; text = z.1; back = z.2 }
 
 pub returns-in_err-admitted : goal.returns-in_err-admitted
 returns-in_err-admitted g c =
