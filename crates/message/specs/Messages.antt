@@ -36,6 +36,10 @@ written s c n random payload after old =
     (record { answer = Err Payload; output = old }))
     (record { answer = Err Buffer; output = old })
 
+-- The length of a message to be written, or refusal 5.
+abbrev pub size : Outgoing → Result ℕ MessageRefusal
+size o = let n = 28 + length o.payload.now + length o.after.now in cond (nat_le n 4124) (Ok n) (Err Payload)
+
 -- The same of a message to be written.
 abbrev pub sent : Sealing → Outgoing → List ℕ → Written
 sent s o old = written s (code o.kind) o.number o.random o.payload.now o.after.now old

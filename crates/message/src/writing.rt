@@ -1,6 +1,6 @@
 // A message written into a lent output.
-ghost use Rattle.std.specs.Prelude.{◌≡◌, ◌+◌, ◌++◌, length, nat_le};
-ghost use Rattle.message.specs.Messages.{sent};
+ghost use Rattle.std.specs.Prelude.{◌≡◌, ◌+◌, ◌≤◌, ◌++◌, length, IfOk};
+ghost use Rattle.message.specs.Messages.{sent, size};
 
 use crate::seal::Seal;
 use headers::Header;
@@ -26,10 +26,7 @@ impl Outgoing<'_> {
         if out.len() < 4124 {
             return Err(MessageRefusal::Buffer);
         }
-        if !self.fits_one() {
-            return Err(MessageRefusal::Payload);
-        }
-        let size = 28 + self.payload.len() + self.after.len();
+        let size = self.size()?;
         let heading = Header {
             code: self.kind.code(),
             length: size as u16,
@@ -47,11 +44,17 @@ impl Outgoing<'_> {
         Ok(size)
     }
 
-    fn fits_one(&self) -> bool
-        ensures { result ≡ nat_le (28 + length self.now.payload.now + length self.now.after.now) 4124 }
+    // The message's length: refusal 5.
+    fn size(&self) -> Result<usize, MessageRefusal>
+        ensures value { result ≡ size self.now }
+        ensures long { IfOk result (λ n. n ≡ 28 + length self.now.payload.now + length self.now.after.now) }
+        ensures one { IfOk result (λ n. n ≤ 4124) }
     {
-        let payload = self.payload.len();
-        payload <= 4096 && self.after.len() <= 4096 - payload
+        let (payload, after) = (self.payload.len(), self.after.len());
+        if payload > 4096 || after > 4096 - payload {
+            return Err(MessageRefusal::Payload);
+        }
+        Ok(28 + payload + after)
     }
 }
 
