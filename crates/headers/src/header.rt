@@ -2,7 +2,7 @@
 ghost use Rattle.std.specs.Prelude.{◌≡◌};
 ghost use Rattle.headers.specs.Headers.{headed, header_bytes, length_fits};
 
-use kinds::MessageRefusal;
+use kinds::{Kind, MessageRefusal};
 
 #[derive(Clone, Copy)]
 pub struct Header {
@@ -17,7 +17,9 @@ pub struct Header {
 fn length_fits(size: usize, code: u16, told: u16) -> bool
     ensures { result ≡ length_fits size code told }
 {
-    (28..=4124).contains(&size) && told as usize == size && (code > 0 || size >= 135)
+    (28..=4124).contains(&size)
+        && told as usize == size
+        && (code != Kind::LogIn.code() || size >= 135)
 }
 
 impl Header {

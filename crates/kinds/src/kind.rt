@@ -82,8 +82,9 @@ impl TryFrom<u16> for Kind {
 }
 
 // The bytes that follow the tag in a message of that type: public key and session ID of a log-in request.
+// By code and not by kind, so that every code has an answer.
 pub fn trailer(code: u16) -> usize
     ensures { result ≡ trailer code }
 {
-    if code == 0 { 107 } else { 0 }
+    if code == Kind::LogIn.code() { 107 } else { 0 }
 }
