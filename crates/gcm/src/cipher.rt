@@ -1,13 +1,15 @@
 // Authenticated encryption and decryption under one key.
-ghost use Rattle.std.specs.Prelude.{◌≡◌, ◌+◌, ◌%◌, ◌^◌, ◌<◌, is_some, Some};
+ghost use Rattle.std.specs.Prelude.{◌≡◌, ◌+◌, ◌%◌, ◌^◌, ◌<◌, is_ok, is_some, Some};
 ghost use Rattle.aes.specs.Cipher.{aes256};
 ghost use Rattle.aes.specs.Under.{under};
 ghost use Rattle.gcm.specs.Gcm.{gctr, encrypted, tag_of, decrypted};
-ghost use Rattle.octets.specs.Fronts.{fits, placed};
+ghost use Rattle.gcm.specs.Refusals.{placing};
+ghost use Rattle.octets.specs.Fronts.{placed};
 ghost use Rattle.std.specs.Option.{unwrap_or};
 
 use crate::blocks::{add_block, add_stream, iv_block};
 use crate::hash::hash_all;
+use crate::refusal::{Undecrypted, WrongTag};
 use aes::Aes256;
 use ghash::Multiplier;
 use octets::equal;
@@ -38,21 +40,27 @@ impl Gcm {
         self.tag(iv, added, text)
     }
 
-    // Decrypts the body in place where the tag is its own; else answers false and leaves it as it is.
-    pub fn decrypt(&self, iv: &[u8; 12], added: &[u8], body: &mut [u8], tag: &[u8; 12]) -> bool
-        ensures answer { result ≡ is_some (decrypted (under self.now.aes) iv.now added.now body.old tag.now) }
+    // Decrypts the body in place where the tag is its own; else leaves it as it is.
+    pub fn decrypt(
+        &self,
+        iv: &[u8; 12],
+        added: &[u8],
+        body: &mut [u8],
+        tag: &[u8; 12],
+    ) -> Result<(), WrongTag>
+        ensures answer { is_ok result ≡ is_some (decrypted (under self.now.aes) iv.now added.now body.old tag.now) }
         ensures text { body.new ≡ unwrap_or (decrypted (under self.now.aes) iv.now added.now body.old tag.now) body.old }
     {
         let own = self.tag(iv, added, body);
         if !equal(tag, &own) {
-            return false;
+            return Err(WrongTag);
         }
         self.stream(iv, 2, body);
-        true
+        Ok(())
     }
 
-    // Decrypts the body into the front of the text where the tag is the body's own and the text has room; else answers false and
-    // leaves the text as it is.
+    // Decrypts the body into the front of the text where the tag is the body's own and the text has room; else leaves
+    // the text as it is.
     pub fn decrypt_to(
         &self,
         iv: &[u8; 12],
@@ -60,29 +68,29 @@ impl Gcm {
         body: &[u8],
         tag: &[u8; 12],
         text: &mut [u8],
-    ) -> bool
-        ensures answer { result ≡ fits (decrypted (under self.now.aes) iv.now added.now body.now tag.now) text.old }
+    ) -> Result<(), Undecrypted>
+        ensures answer { result ≡ placing (decrypted (under self.now.aes) iv.now added.now body.now tag.now) text.old }
         ensures text { text.new ≡ placed (decrypted (under self.now.aes) iv.now added.now body.now tag.now) text.old }
     {
         let right = self.tag(iv, added, body);
         if !equal(tag, &right) {
-            return false;
+            return Err(Undecrypted::WrongTag);
         }
         self.stream_to(iv, body, text)
     }
 
-    // The body with the key stream added, at the front of the text; false where it has no room.
-    fn stream_to(&self, iv: &[u8; 12], body: &[u8], text: &mut [u8]) -> bool
-        ensures answer { result ≡ fits (Some (gctr (under self.now.aes) iv.now 2 body.now)) text.old }
+    // The body with the key stream added, at the front of the text, where it has room.
+    fn stream_to(&self, iv: &[u8; 12], body: &[u8], text: &mut [u8]) -> Result<(), Undecrypted>
+        ensures answer { result ≡ placing (Some (gctr (under self.now.aes) iv.now 2 body.now)) text.old }
         ensures text { text.new ≡ placed (Some (gctr (under self.now.aes) iv.now 2 body.now)) text.old }
     {
-        let n = body.len();
-        if n > text.len() {
-            return false;
+        if text.len() < body.len() {
+            return Err(Undecrypted::NoRoom);
         }
-        text[0..n].copy_from_slice(body);
-        self.stream(iv, 2, &mut text[0..n]);
-        true
+        let front = &mut text[..body.len()];
+        front.copy_from_slice(body);
+        self.stream(iv, 2, front);
+        Ok(())
     }
 
     // The cipher's block at counter n under an IV that fills the high 96 bits of base.

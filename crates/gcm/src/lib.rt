@@ -5,6 +5,8 @@ mod blocks;
 mod cipher;
 mod hash;
 mod laws;
+mod refusal;
 
 pub use cipher::Gcm;
 pub use laws::{decrypts_what_was_encrypted, lengths_kept};
+pub use refusal::{Undecrypted, WrongTag};

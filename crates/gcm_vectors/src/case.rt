@@ -1,7 +1,7 @@
 // A case: one line of the input, and what is computed from it, by a function for each form.
 use crate::answer::Answered;
 use cases::{Answer, Fault, array, bytes};
-use gcm::Gcm;
+use gcm::{Gcm, WrongTag};
 use std::alloc::Global;
 
 fn encrypt(heap: Global, words: &[&str]) -> Result<Answered, Fault> {
@@ -24,9 +24,11 @@ fn decrypt(heap: Global, words: &[&str]) -> Result<Answered, Fault> {
     let iv = array(heap, iv)?;
     let tag = array(heap, tag)?;
     let additional = bytes(heap, additional)?;
-    let mut text = bytes(heap, body)?;
-    let fits = gcm.decrypt(&iv, &additional, &mut text, &tag);
-    Ok(Answered::Decrypted { fits, text })
+    let mut body = bytes(heap, body)?;
+    match gcm.decrypt(&iv, &additional, &mut body, &tag) {
+        Ok(()) => Ok(Answered::Decrypted(body)),
+        Err(WrongTag) => Ok(Answered::WrongTag(body)),
+    }
 }
 
 impl Answer for Answered {

@@ -1,6 +1,6 @@
 -- A header read and written.
 use Rattle.std.proofs.Common.{◌≡◌, ℕ, zero, suc, ◌+◌, ◌*◌, ◌≤◌, Bool, true, false, cond, ◌&&◌, eqb, List, [], ◌∷◌, ◌++◌, length, get_or, take, drop, Ok, Err, Result, sym, refl, ap, ◌∙◌, arith, take_all, drop-cons, eqb-true}
-use borrow.Author.Tests.{clash}
+use Rattle.std.proofs.lemmas.Bool.{and_parts}
 use Rattle.std.proofs.lemmas.Bool.Decides.{nat_tests}
 use Rattle.kinds.specs.declared.refusal.MessageRefusal.{MessageRefusal}
 use Rattle.kinds.specs.declared.refusal.MessageRefusal.TheVariants.{Length, Version, Reserved}
@@ -16,10 +16,6 @@ front : (n i : ℕ) (m : List ℕ) → i + n ≤ length m → take n (drop i m) 
 front zero i m h = refl
 front (suc n) i m h =
     ap (λ x. take (suc n) x) (drop-cons m i 0 (omega arith)) ∙ ap {B = List ℕ} (λ x. get_or m i 0 ∷ x) (front n (suc i) m (omega arith))
-
-both : (p q : Bool) → (p && q) ≡ true → (p ≡ true) × (q ≡ true)
-both true q e = (refl, e)
-both false q e = absurd (clash e)
 
 six : (xs : List ℕ) → length xs ≡ 6
     → get_or xs 0 0 ∷ get_or xs 1 0 ∷ get_or xs 2 0 ∷ get_or xs 3 0 ∷ get_or xs 4 0 ∷ get_or xs 5 0 ∷ [] ≡ xs
@@ -38,15 +34,15 @@ passed : (a b c : Bool) (x h : Header)
     → ◌≡◌ {A = Result Header MessageRefusal} (cond a (cond b (cond c (Ok x) (Err Reserved)) (Err Version)) (Err Length)) (Ok h)
     → (a ≡ true) × (b ≡ true) × (c ≡ true) × (h ≡ x)
 passed true true true x h e = (refl, refl, refl, cc)
-passed true true false x h e = let z : ◌≡◌ {A = ℕ} 0 1 = cc in absurd (omega arith)
-passed true false c x h e = let z : ◌≡◌ {A = ℕ} 0 1 = cc in absurd (omega arith)
-passed false b c x h e = let z : ◌≡◌ {A = ℕ} 0 1 = cc in absurd (omega arith)
+passed true true false x h e = absurd cc
+passed true false c x h e = absurd cc
+passed false b c x h e = absurd cc
 
 long : (n k t : ℕ) → length_fits n k t ≡ true → 28 ≤ n
 long n k t e = grind (arith, nat_tests)
 
 ones : (x y v : ℕ) → (eqb x v && eqb y v) ≡ true → (x ≡ v) × (y ≡ v)
-ones x y v e = let b = both (eqb x v) (eqb y v) e in (eqb-true x v b.0, eqb-true y v b.1)
+ones x y v e = let b = and_parts (eqb x v) (eqb y v) e in (eqb-true x v b.0, eqb-true y v b.1)
 
 pub writes : WritesWhatWasRead
 writes h m b e =

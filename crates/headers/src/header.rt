@@ -2,10 +2,11 @@
 ghost use Rattle.std.specs.Prelude.{◌≡◌};
 ghost use Rattle.headers.specs.Headers.{headed, header_bytes, length_fits};
 
-use kinds::MessageRefusal;
+use kinds::{Kind, MessageRefusal};
 
 #[derive(Clone, Copy)]
 pub struct Header {
+    // a number and no kind: a code of no kind passes here, and fails at the type check
     pub code: u16,
     pub length: u16,
     pub number: u16,
@@ -16,7 +17,9 @@ pub struct Header {
 fn length_fits(size: usize, code: u16, told: u16) -> bool
     ensures { result ≡ length_fits size code told }
 {
-    size >= 28 && size <= 4124 && told as usize == size && (code > 0 || size >= 135)
+    (28..=4124).contains(&size)
+        && told as usize == size
+        && (code != Kind::LogIn.code() || size >= 135)
 }
 
 impl Header {

@@ -1,7 +1,10 @@
 -- The kinds of messages, their codes, and the checks of a received message's type and number.
-use Rattle.std.specs.Prelude.{◌≡◌, ℕ, Bool, cond, not, ◌&&◌, ◌||◌, List, [], ◌∷◌, Some, None, Ok, Err, Option, Result, MatchOption, ◌==◌, ◌≢◌, nat_lt}
+use Rattle.std.specs.Prelude.{◌≡◌, ℕ, Bool, cond, not, ◌&&◌, ◌||◌, List, Some, None, Ok, Err, Option, Result, MatchOption, ◌==◌, ◌≢◌, nat_lt}
+use Rattle.std.specs.List.{find}
+use Rattle.std.specs.Option.{ok_or}
 use Rattle.kinds.specs.declared.kind.Kind.{Kind}
 use Rattle.kinds.specs.declared.kind.Kind.TheVariants.{LogIn, LogInResponse, Command, Response, UploadFragment, LastUploadFragment, UploadResponse, GoAhead, DownloadFragment, LastDownloadFragment}
+use Rattle.kinds.specs.declared.kind.UnknownKind.{UnknownKind}
 use Rattle.kinds.specs.declared.kind.End.{End}
 use Rattle.kinds.specs.declared.kind.End.TheVariants.{Client, Server}
 use Rattle.kinds.specs.declared.refusal.MessageRefusal.{MessageRefusal}
@@ -34,6 +37,9 @@ kind_of c =
     (cond (c == 0x0310) (Some DownloadFragment)
     (cond (c == 0x0311) (Some LastDownloadFragment) None)))))))))
 
+abbrev pub kind_or_unknown : ℕ → Result Kind UnknownKind
+kind_or_unknown c = ok_or (kind_of c) (record { 0 = c })
+
 -- Each kind's code is of that kind, and a code that is of a kind is that kind's.
 abbrev pub CodesTellKinds : Type 0
 CodesTellKinds = ((k : Kind) → kind_of (code k) ≡ Some k) × ((c : ℕ) → MatchOption (kind_of c) ((k : Kind) → code k ≢ c) (λ k. code k ≡ c))
@@ -59,10 +65,9 @@ opening k = code k == 0x0000 || code k == 0x0010
 abbrev pub trailer : ℕ → ℕ
 trailer c = cond (c == 0) 107 0
 
--- The type check: the kind among the expected ones whose code it is, or refusal 10.
+-- The type check: the first of the expected kinds whose code it is, or refusal 10.
 unfoldable pub found : List Kind → ℕ → Result Kind MessageRefusal
-found [] c = Err Unexpected
-found (k ∷ ks) c = cond (code k == c) (Ok k) (found ks c)
+found ks c = ok_or (find (λ k. code k == c) ks) Unexpected
 
 -- The number check: above the last accepted one, and 1 in a log-in; else refusal 11.
 abbrev pub acceptable : Kind → ℕ → ℕ → Bool

@@ -9,7 +9,11 @@ use crate::refusal::MessageRefusal;
 pub fn check_kind(expected: &[Kind], code: u16) -> Result<Kind, MessageRefusal>
     ensures { result ≡ found expected.now code }
 {
-    find(expected, code)
+    expected
+        .iter()
+        .find(|kind| kind.code() == code)
+        .copied()
+        .ok_or(MessageRefusal::Unexpected)
 }
 
 // The number check: above the last accepted one, and 1 in a log-in.
@@ -20,16 +24,4 @@ pub fn check_number(kind: Kind, last: u16, number: u16) -> Result<u16, MessageRe
         return Err(MessageRefusal::Number);
     }
     Ok(number)
-}
-
-fn find(expected: &[Kind], code: u16) -> Result<Kind, MessageRefusal>
-    ensures { result ≡ found expected.now code }
-{
-    for i in 0..expected.len() {
-        let kind = expected[i];
-        if kind.code() == code {
-            return Ok(kind);
-        }
-    }
-    Err(MessageRefusal::Unexpected)
 }

@@ -7,6 +7,6 @@ mod laws;
 mod refusal;
 
 pub use check::{check_kind, check_number};
-pub use kind::{End, Kind, trailer};
+pub use kind::{End, Kind, UnknownKind, trailer};
 pub use laws::codes_tell_kinds;
 pub use refusal::MessageRefusal;

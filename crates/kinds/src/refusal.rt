@@ -2,23 +2,24 @@
 ghost use Rattle.std.specs.Prelude.{◌≡◌};
 ghost use Rattle.kinds.specs.Refusals.{number};
 
+// By the numbers under which both ends give them.
 #[derive(Clone, Copy, PartialEq, Eq, Debug)]
 pub enum MessageRefusal {
     // a lent buffer is too small
-    Buffer,
+    Buffer = 3,
     // the payload does not fit one message
-    Payload,
+    Payload = 5,
     // the length is out of bounds, or not as the field says
-    Length,
-    Version,
+    Length = 7,
+    Version = 8,
     // bytes 14 and 15 are not zero
-    Reserved,
+    Reserved = 9,
     // the type is not expected now
-    Unexpected,
+    Unexpected = 10,
     // the number is not acceptable
-    Number,
+    Number = 11,
     // the seal does not open
-    Unopened,
+    Unopened = 12,
 }
 
 impl MessageRefusal {
@@ -26,15 +27,6 @@ impl MessageRefusal {
     pub fn number(&self) -> u8
         ensures { result ≡ number self.now }
     {
-        match self {
-            MessageRefusal::Buffer => 3,
-            MessageRefusal::Payload => 5,
-            MessageRefusal::Length => 7,
-            MessageRefusal::Version => 8,
-            MessageRefusal::Reserved => 9,
-            MessageRefusal::Unexpected => 10,
-            MessageRefusal::Number => 11,
-            MessageRefusal::Unopened => 12,
-        }
+        *self as u8
     }
 }

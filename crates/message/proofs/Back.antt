@@ -10,9 +10,8 @@ use Rattle.headers.specs.Headers.{header_bytes, headed, length_fits, Sized}
 use Rattle.headers.proofs.Bytes.{reads}
 use Rattle.message.specs.declared.receiving.Received.{Received}
 use Rattle.message.specs.Meaning.{Sealing, Opening}
-use Rattle.message.specs.Messages.{heading, message, admitted, opens, received, told, text_after}
+use Rattle.message.specs.Messages.{heading, message, Message, admitted, opens, received, told, text_after}
 use Rattle.message.specs.Trip.{Proper, ReadsBack}
-use Rattle.message.proofs.Admission.{admitted-by_number}
 use Rattle.message.proofs.Opening.{received-by_admitted}
 
 code_small : (k : Kind) → code k < 2 ^ 16
@@ -97,9 +96,8 @@ module _ (s : Sealing) (o : Opening)
       (rw f (may (code k) (length payload) (length after) proper.follows proper.one))
 
   let_in : admitted e last m ≡ Ok (record { kind = k; number = n; end = length m - trailer (code k) })
-  let_in =
-      admitted-by_number e last m (heading (code k) n random (length payload) (length after)) k (Ok n) (sym header_read) (sym proper.awaited)
-      (sym (rw proper.next))
+  unfolding admitted
+  let_in = rw (header_read, proper.awaited, proper.next)
 
   is_parts : m ≡ header_bytes (heading (code k) n random (length payload) (length after))
       ++ ((s (header_bytes (heading (code k) n random (length payload) (length after))) payload).0
@@ -125,8 +123,14 @@ module _ (s : Sealing) (o : Opening)
     (level : (h p : List ℕ) → length (s h p).0 ≡ length p)
     (twelve : (h p : List ℕ) → length (s h p).1 ≡ 12)
     (e : List Kind) (last : ℕ) (m old : List ℕ) (r : Result Received MessageRefusal) (text : List ℕ) where
-  pub back : r ≡ told (received o e last m old) → text ≡ text_after (received o e last m old) old → ReadsBack s e last m old r text
-  back f g k n random payload after proper is =
-      let q : received o e last m old ≡ Ok (record { kind = k; number = n; payload = payload }) =
-      ap (λ z. received o e last z old) is ∙ got s o reopens level twelve e last k n random payload after old proper in
-      (f ∙ ap told q, g ∙ ap (λ z. text_after z old) q)
+  -- What was received comes to q, and so do the answer and the text: then they are as promised, and what was written is read back.
+  pub settled : (q : Result Message MessageRefusal) → received o e last m old ≡ q → r ≡ told q → text ≡ text_after q old
+      → (r ≡ told (received o e last m old)) × (text ≡ text_after (received o e last m old) old) × ReadsBack s e last m old r text
+  settled q w f g = (
+    f ∙ ap told (sym w),
+    g ∙ ap (λ z. text_after z old) (sym w),
+    λ k n random payload after proper is.
+        let v : q ≡ Ok (record { kind = k; number = n; payload = payload }) =
+        sym w ∙ ap (λ z. received o e last z old) is ∙ got s o reopens level twelve e last k n random payload after old proper in
+        (f ∙ ap told v, g ∙ ap (λ z. text_after z old) v),
+  )

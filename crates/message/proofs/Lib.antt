@@ -1,4 +1,3 @@
-pub mod Admission
 pub mod Laying
 pub mod Opening
 pub mod Back

@@ -3,11 +3,12 @@ use Rattle.std.specs.Prelude.{ℕ, ◌+◌, ◌-◌, cond, List, ◌++◌, lengt
 use Rattle.kinds.specs.declared.kind.Kind.{Kind}
 use Rattle.kinds.specs.declared.refusal.MessageRefusal.{MessageRefusal}
 use Rattle.kinds.specs.declared.refusal.MessageRefusal.TheVariants.{Buffer, Payload, Unopened}
-use Rattle.kinds.specs.Kinds.{trailer, found, numbered}
+use Rattle.kinds.specs.Kinds.{code, trailer, found, numbered}
 use Rattle.headers.specs.declared.header.Header.{Header}
 use Rattle.headers.specs.Headers.{header_bytes, headed}
 use Rattle.message.specs.declared.receiving.Admitted.{Admitted}
 use Rattle.message.specs.declared.receiving.Received.{Received}
+use Rattle.message.specs.declared.writing.Outgoing.{Outgoing}
 use Rattle.message.specs.Meaning.{Sealing, Opening}
 use Rattle.octets.specs.Fronts.{at_front}
 
@@ -34,6 +35,14 @@ written s c n random payload after old =
     (cond (nat_le size 4124) (record { answer = Ok size; output = message s c n random payload after ++ drop size old })
     (record { answer = Err Payload; output = old }))
     (record { answer = Err Buffer; output = old })
+
+-- The length of a message to be written, or refusal 5.
+abbrev pub size : Outgoing → Result ℕ MessageRefusal
+size o = let n = 28 + length o.payload.now + length o.after.now in cond (nat_le n 4124) (Ok n) (Err Payload)
+
+-- The same of a message to be written.
+abbrev pub sent : Sealing → Outgoing → List ℕ → Written
+sent s o old = written s (code o.kind) o.number o.random o.payload.now o.after.now old
 
 -- Kind, number and end of the tag of a message past refusals 7 to 11, in their order.
 abbrev pub by_number : List ℕ → Header → Kind → Result ℕ MessageRefusal → Result Admitted MessageRefusal

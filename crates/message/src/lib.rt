@@ -9,6 +9,6 @@ mod writing;
 
 pub use laws::lengths;
 pub use receiving::Received;
-pub use seal::Seal;
-pub use taking::receive;
-pub use writing::{log_in_trailer, write};
+pub use seal::{Seal, Unopened};
+pub use taking::Awaited;
+pub use writing::{Outgoing, log_in_trailer};

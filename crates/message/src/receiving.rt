@@ -14,5 +14,6 @@ pub(crate) struct Admitted {
 pub struct Received {
     pub kind: Kind,
     pub number: u16,
+    // no slice of the text: a contract could not say then what the text holds, as that a refusal leaves it untouched
     pub length: usize,
 }

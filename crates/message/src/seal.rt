@@ -1,7 +1,22 @@
 // A seal, by its meaning.
-ghost use Rattle.std.specs.Prelude.{◌≡◌, ℕ, List, length, Some};
+ghost use Rattle.std.specs.Prelude.{◌≡◌, ℕ, List, length, is_ok, Some};
+ghost use Rattle.kinds.specs.declared.refusal.MessageRefusal.TheVariants.{Unopened};
 ghost use Rattle.message.specs.Meaning.{Sealing, Opening};
 ghost use Rattle.octets.specs.Fronts.{fits, placed};
+
+use kinds::MessageRefusal;
+
+// The seal does not open, or what it opens to has no room.
+#[derive(Clone, Copy, PartialEq, Eq, Debug)]
+pub struct Unopened;
+
+impl From<Unopened> for MessageRefusal {
+    ghost from_gives = { λ _ r. r ≡ Unopened };
+
+    fn from(_unopened: Unopened) -> MessageRefusal {
+        MessageRefusal::Unopened
+    }
+}
 
 pub trait Seal {
     ghost sealing: { Self → Sealing };
@@ -13,9 +28,15 @@ pub trait Seal {
         ensures body { payload.new ≡ (sealing self.now header.now payload.old).0 }
         ensures tag { result ≡ (sealing self.now header.now payload.old).1 };
 
-    // Opens a body, and puts the payload at the front of the text; false, and the text untouched, where it does not open or has no room.
-    fn open(&self, header: &[u8; 16], body: &[u8], tag: &[u8; 12], text: &mut [u8]) -> bool
-        ensures told { result ≡ fits (opening self.now header.now body.now tag.now) text.old }
+    // Opens a body, and puts the payload at the front of the text; the text is untouched where it does not open or has no room.
+    fn open(
+        &self,
+        header: &[u8; 16],
+        body: &[u8],
+        tag: &[u8; 12],
+        text: &mut [u8],
+    ) -> Result<(), Unopened>
+        ensures told { is_ok result ≡ fits (opening self.now header.now body.now tag.now) text.old }
         ensures text { text.new ≡ placed (opening self.now header.now body.now tag.now) text.old };
 
     // Opening what was sealed under the same header gives the payload.

@@ -1,83 +1,70 @@
 // A message written into a lent output.
-ghost use Rattle.std.specs.Prelude.{◌≡◌, ◌+◌, ◌++◌, nat_le};
-ghost use Rattle.kinds.specs.Kinds.{code};
-ghost use Rattle.message.specs.Messages.{written};
+ghost use Rattle.std.specs.Prelude.{◌≡◌, ◌+◌, ◌≤◌, ◌++◌, length, IfOk};
+ghost use Rattle.message.specs.Messages.{sent, size};
 
 use crate::seal::Seal;
 use headers::Header;
 use kinds::{Kind, MessageRefusal};
 
-// Writes a message at the front of the output, and answers its length: refusals 3 and 5 leave the output untouched. What comes
-// after the tag is for a log-in request alone.
-pub fn write<S: Seal>(
-    seal: &S,
-    kind: Kind,
-    number: u16,
-    random: &[u8; 6],
-    payload: &[u8],
-    after: &[u8],
-    out: &mut [u8],
-) -> Result<usize, MessageRefusal>
-    ensures answer { result ≡ (written (S.sealing seal.now) (code kind) number random.now payload.now after.now out.old).answer }
-    ensures output { out.new ≡ (written (S.sealing seal.now) (code kind) number random.now payload.now after.now out.old).output }
-{
-    let code = kind.code();
-    lay(seal, code, number, random, payload, after, out)
+// A message to be written. What comes after the tag is for a log-in request alone.
+#[derive(Clone, Copy)]
+pub struct Outgoing<'a> {
+    pub kind: Kind,
+    pub number: u16,
+    pub random: [u8; 6],
+    pub payload: &'a [u8],
+    pub after: &'a [u8],
 }
 
-fn fits_one(payload: usize, after: usize) -> bool
-    ensures { result ≡ nat_le (28 + payload + after) 4124 }
-{
-    payload <= 4096 && after <= 4096 - payload
-}
+impl Outgoing<'_> {
+    // Writes the message at the front of the output, and answers its length: refusals 3 and 5 leave the output untouched.
+    #[tactic(auto, unfolding(crate::specs::Messages::written, crate::specs::Messages::message))]
+    pub fn write<S: Seal>(&self, seal: &S, out: &mut [u8]) -> Result<usize, MessageRefusal>
+        ensures answer { result ≡ (sent (S.sealing seal.now) self.now out.old).answer }
+        ensures output { out.new ≡ (sent (S.sealing seal.now) self.now out.old).output }
+    {
+        if out.len() < 4124 {
+            return Err(MessageRefusal::Buffer);
+        }
+        let size = self.size()?;
+        let heading = Header {
+            code: self.kind.code(),
+            length: size as u16,
+            number: self.number,
+            random: self.random,
+        };
+        let header = heading.write();
+        let (front, rest) = out.split_at_mut(16);
+        let (body, rest) = rest.split_at_mut(self.payload.len());
+        let (tag, rest) = rest.split_at_mut(12);
+        front.copy_from_slice(&header);
+        body.copy_from_slice(self.payload);
+        tag.copy_from_slice(&seal.seal(&header, body));
+        rest[..self.after.len()].copy_from_slice(self.after);
+        Ok(size)
+    }
 
-fn lay<S: Seal>(
-    seal: &S,
-    code: u16,
-    number: u16,
-    random: &[u8; 6],
-    payload: &[u8],
-    after: &[u8],
-    out: &mut [u8],
-) -> Result<usize, MessageRefusal>
-    ensures answer { result ≡ (written (S.sealing seal.now) code number random.now payload.now after.now out.old).answer }
-    ensures output { out.new ≡ (written (S.sealing seal.now) code number random.now payload.now after.now out.old).output }
-{
-    if out.len() < 4124 {
-        return Err(MessageRefusal::Buffer);
+    // The message's length: refusal 5.
+    fn size(&self) -> Result<usize, MessageRefusal>
+        ensures value { result ≡ size self.now }
+        ensures long { IfOk result (λ n. n ≡ 28 + length self.now.payload.now + length self.now.after.now) }
+        ensures one { IfOk result (λ n. n ≤ 4124) }
+    {
+        let (payload, after) = (self.payload.len(), self.after.len());
+        if payload > 4096 || after > 4096 - payload {
+            return Err(MessageRefusal::Payload);
+        }
+        Ok(28 + payload + after)
     }
-    if !fits_one(payload.len(), after.len()) {
-        return Err(MessageRefusal::Payload);
-    }
-    let n = payload.len();
-    let size = 28 + n + after.len();
-    let heading = Header {
-        code,
-        length: size as u16,
-        number,
-        random: *random,
-    };
-    let header = heading.write();
-    out[0..16].copy_from_slice(&header);
-    out[16..16 + n].copy_from_slice(payload);
-    let tag = seal.seal(&header, &mut out[16..16 + n]);
-    out[16 + n..28 + n].copy_from_slice(&tag);
-    out[28 + n..size].copy_from_slice(after);
-    Ok(size)
 }
 
 // What follows the tag of a log-in request.
 pub fn log_in_trailer(public_key: &[u8; 91], session: &[u8; 16]) -> [u8; 107]
     ensures { result ≡ public_key.now ++ session.now }
 {
-    joined(public_key, session)
-}
-
-fn joined(public_key: &[u8; 91], session: &[u8; 16]) -> [u8; 107]
-    ensures { result ≡ public_key.now ++ session.now }
-{
     let mut trailer = [0u8; 107];
-    trailer[0..91].copy_from_slice(public_key);
-    trailer[91..107].copy_from_slice(session);
+    let (key, rest) = trailer.split_at_mut(91);
+    key.copy_from_slice(public_key);
+    rest.copy_from_slice(session);
     trailer
 }

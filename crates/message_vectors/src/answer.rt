@@ -22,12 +22,7 @@ pub enum Answered {
 
 // Whether a buffer is as it was from a place on.
 pub(crate) fn untouched(buffer: &[u8], from: usize) -> bool {
-    for i in from..buffer.len() {
-        if buffer[i] != FILL {
-            return false;
-        }
-    }
-    true
+    buffer.iter().skip(from).all(|&byte| byte == FILL)
 }
 
 impl fmt::Display for Answered {

@@ -1,48 +1,59 @@
 // Messages to be read.
 use crate::answer::{Answered, FILL, untouched};
-use crate::choice::{AnySeal, kinds_of, number_of};
+use crate::choice::{Sealed, kinds_of, number_of, under};
 use cases::{Fault, bytes};
-use kinds::Kind;
+use message::{Awaited, Seal};
 use std::alloc::Global;
 
-// What is read of a message, into that text.
-fn opened(
-    seal: &AnySeal,
-    expected: &[Kind],
+#[derive(Clone, Copy)]
+struct Reading<'a> {
+    expected: &'a str,
     last: u16,
-    message: &[u8],
-    mut text: Vec<u8>,
-) -> Answered {
-    match seal.receive(expected, last, message, &mut text) {
+    message: &'a str,
+}
+
+impl Sealed for Reading<'_> {
+    // Reads into a text of 4,096 bytes.
+    fn answered<S: Seal>(self, heap: Global, seal: &S) -> Result<Answered, Fault> {
+        let kinds = kinds_of(heap, self.expected)?;
+        let message = bytes(heap, self.message)?;
+        let text = vec![in heap; FILL; 4096]?;
+        let awaited = Awaited {
+            kinds: &kinds,
+            last: self.last,
+        };
+        Ok(opened(&awaited, seal, &message, text))
+    }
+}
+
+// What is read of a message, into that text.
+fn opened<S: Seal>(awaited: &Awaited, seal: &S, message: &[u8], mut text: Vec<u8>) -> Answered {
+    let answer = awaited.receive(seal, message, &mut text);
+    let length = answer.map_or(0, |received| received.length);
+    if !untouched(&text, length) {
+        return Answered::Touched("text touched");
+    }
+    match answer {
         Ok(received) => {
-            if !untouched(&text, received.length) {
-                return Answered::Touched("text touched");
-            }
-            text.truncate(received.length);
+            text.truncate(length);
             Answered::Opened {
                 kind: received.kind,
                 number: received.number,
                 payload: text,
             }
         }
-        Err(refusal) => {
-            if !untouched(&text, 0) {
-                return Answered::Touched("text touched");
-            }
-            Answered::Refused(refusal)
-        }
+        Err(refusal) => Answered::Refused(refusal),
     }
 }
 
-// Reads into a text of 4,096 bytes.
 pub(crate) fn read(heap: Global, words: &[&str]) -> Result<Answered, Fault> {
     let [seal, key, session, expected, last, message] = words else {
         return Err(Fault::Count);
     };
-    let last = number_of(last)?;
-    let seal = AnySeal::parse(heap, seal, key, session)?;
-    let expected = kinds_of(heap, expected)?;
-    let message = bytes(heap, message)?;
-    let text = vec![in heap; FILL; 4096]?;
-    Ok(opened(&seal, &expected, last, &message, text))
+    let reading = Reading {
+        expected,
+        last: number_of(last)?,
+        message,
+    };
+    under(heap, [seal, key, session], reading)
 }

@@ -1,65 +1,64 @@
 // Messages to be written.
 use crate::answer::{Answered, FILL, untouched};
-use crate::choice::{AnySeal, kind_of, number_of};
+use crate::choice::{Sealed, kind_of, number_of, under};
 use cases::{Fault, array, bytes};
 use kinds::Kind;
+use message::{Outgoing, Seal};
 use std::alloc::Global;
 
 #[derive(Clone, Copy)]
-struct Fields {
+struct Writing<'a> {
     kind: Kind,
     number: u16,
     random: [u8; 6],
+    payload: &'a str,
+    after: &'a str,
+    room: usize,
 }
 
-impl Fields {
-    fn parse(heap: Global, kind: &str, number: &str, random: &str) -> Result<Fields, Fault> {
-        let kind = kind_of(heap, kind)?;
-        let number = number_of(number)?;
-        let random = array::<6>(heap, random)?;
-        Ok(Fields {
-            kind,
-            number,
-            random,
-        })
+impl Sealed for Writing<'_> {
+    // Writes into an output of that many bytes.
+    fn answered<S: Seal>(self, heap: Global, seal: &S) -> Result<Answered, Fault> {
+        let payload = bytes(heap, self.payload)?;
+        let after = bytes(heap, self.after)?;
+        let out = vec![in heap; FILL; self.room]?;
+        let outgoing = Outgoing {
+            kind: self.kind,
+            number: self.number,
+            random: self.random,
+            payload: &payload,
+            after: &after,
+        };
+        Ok(sealed(&outgoing, seal, out))
     }
+}
 
-    // The message in that output, or why there is none.
-    fn written(&self, seal: &AnySeal, payload: &[u8], after: &[u8], mut out: Vec<u8>) -> Answered {
-        match seal.write(
-            self.kind,
-            self.number,
-            &self.random,
-            payload,
-            after,
-            &mut out,
-        ) {
-            Ok(size) => {
-                if !untouched(&out, size) {
-                    return Answered::Touched("rest touched");
-                }
-                out.truncate(size);
-                Answered::Message(out)
-            }
-            Err(refusal) => {
-                if !untouched(&out, 0) {
-                    return Answered::Touched("rest touched");
-                }
-                Answered::Refused(refusal)
-            }
+// The message in that output, or why there is none.
+fn sealed<S: Seal>(outgoing: &Outgoing, seal: &S, mut out: Vec<u8>) -> Answered {
+    let answer = outgoing.write(seal, &mut out);
+    if !untouched(&out, answer.unwrap_or(0)) {
+        return Answered::Touched("rest touched");
+    }
+    match answer {
+        Ok(size) => {
+            out.truncate(size);
+            Answered::Message(out)
         }
+        Err(refusal) => Answered::Refused(refusal),
     }
 }
 
-// Writes into an output of that many bytes.
 pub(crate) fn written(heap: Global, words: &[&str], room: usize) -> Result<Answered, Fault> {
     let [seal, key, session, kind, number, random, payload, after] = words else {
         return Err(Fault::Count);
     };
-    let fields = Fields::parse(heap, kind, number, random)?;
-    let seal = AnySeal::parse(heap, seal, key, session)?;
-    let payload = bytes(heap, payload)?;
-    let after = bytes(heap, after)?;
-    let out = vec![in heap; FILL; room]?;
-    Ok(fields.written(&seal, &payload, &after, out))
+    let writing = Writing {
+        kind: kind_of(heap, kind)?,
+        number: number_of(number)?,
+        random: array(heap, random)?,
+        payload,
+        after,
+        room,
+    };
+    under(heap, [seal, key, session], writing)
 }

@@ -12,7 +12,7 @@ use Rattle.seals.specs.Open.{open_tag, open_opening}
 
 told : (c : Bool) (x p : List ℕ) → cond c (Some x) None ≡ Some p → p ≡ x
 told true x p e = cc
-told false x p e = let z : ◌≡◌ {A = ℕ} 0 1 = cc in absurd (omega arith)
+told false x p e = absurd cc
 
 pub leveled : (E : ℕ → ℕ) (iv added b t p : List ℕ) → decrypted E iv added b t ≡ Some p → length p ≡ length b
 leveled E iv added b t p e = ap length (told _ (gctr E iv 2 b) p e) ∙ (lengths-kept E iv [] b).0

@@ -1,12 +1,12 @@
 // The open seal: payloads are authenticated and can be read by all.
-ghost use Rattle.std.specs.Prelude.{◌≡◌, ◌++◌, take, Some, refl};
+ghost use Rattle.std.specs.Prelude.{◌≡◌, ◌++◌, is_ok, Some, refl};
 ghost use Rattle.mac.specs.Hmac.{hmac};
 ghost use Rattle.octets.specs.Fronts.{fits, placed};
 ghost use Rattle.seals.specs.Open.{open_tag, open_sealing, open_opening};
 ghost use Rattle.seals.specs.Laws;
 
 use mac::Hmac;
-use message::Seal;
+use message::{Seal, Unopened};
 use octets::equal;
 
 #[derive(Clone, Copy)]
@@ -15,25 +15,16 @@ pub struct OpenSeal {
     session: [u8; 16],
 }
 
-fn first_twelve(code: &[u8; 32]) -> [u8; 12]
-    ensures { result ≡ take 12 code.now }
-{
-    let mut tag = [0u8; 12];
-    tag.copy_from_slice(&code[0..12]);
-    tag
-}
-
-// Puts bytes at the front of the text; false, and the text untouched, where they have no room.
-fn put(bytes: &[u8], text: &mut [u8]) -> bool
-    ensures answer { result ≡ fits (Some bytes.now) text.old }
+// Puts bytes at the front of the text, which is untouched where they have no room.
+fn put(bytes: &[u8], text: &mut [u8]) -> Result<(), Unopened>
+    ensures answer { is_ok result ≡ fits (Some bytes.now) text.old }
     ensures text { text.new ≡ placed (Some bytes.now) text.old }
 {
-    let n = bytes.len();
-    if n > text.len() {
-        return false;
+    if text.len() < bytes.len() {
+        return Err(Unopened);
     }
-    text[0..n].copy_from_slice(bytes);
-    true
+    text[..bytes.len()].copy_from_slice(bytes);
+    Ok(())
 }
 
 impl OpenSeal {
@@ -61,8 +52,7 @@ impl OpenSeal {
     fn tag(&self, header: &[u8; 16], body: &[u8]) -> [u8; 12]
         ensures { result ≡ open_tag self.now.key self.now.session header.now body.now }
     {
-        let code = self.code(header, body);
-        first_twelve(&code)
+        *self.code(header, body).first_chunk().unwrap()
     }
 }
 
@@ -83,10 +73,16 @@ impl Seal for OpenSeal {
         self.tag(header, payload)
     }
 
-    fn open(&self, header: &[u8; 16], body: &[u8], tag: &[u8; 12], text: &mut [u8]) -> bool {
+    fn open(
+        &self,
+        header: &[u8; 16],
+        body: &[u8],
+        tag: &[u8; 12],
+        text: &mut [u8],
+    ) -> Result<(), Unopened> {
         let own = self.tag(header, body);
         if !equal(tag, &own) {
-            return false;
+            return Err(Unopened);
         }
         put(body, text)
     }

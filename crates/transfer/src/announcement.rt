@@ -14,12 +14,10 @@ pub struct Announcement<'a> {
 pub fn announce<'a>(name: &'a str, file: &[u8]) -> Option<Announcement<'a>>
     ensures { Announced result name.now file.now }
 {
-    if file.len() > 0xffff_ffff {
-        return None;
-    }
+    let size = u32::try_from(file.len()).ok()?;
     Some(Announcement {
         name,
-        size: file.len() as u32,
+        size,
         digest: digest::sha256(file),
     })
 }
@@ -27,12 +25,9 @@ pub fn announce<'a>(name: &'a str, file: &[u8]) -> Option<Announcement<'a>>
 // The text of the command: word, name, size and digest, separated by byte 10.
 impl fmt::Display for Announcement<'_> {
     fn fmt<W: fmt::Write>(&self, f: &mut fmt::Formatter<W>) -> fmt::Result {
-        let name = self.name;
-        let size = self.size;
-        write!(f, "upl\n{name}\n{size}\n")?;
+        write!(f, "upl\n{}\n{}\n", self.name, self.size)?;
         for character in octets::hexadecimal(&self.digest) {
-            let character = character as char;
-            write!(f, "{character}")?;
+            f.write_char(char::from(character))?;
         }
         Ok(())
     }

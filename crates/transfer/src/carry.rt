@@ -4,7 +4,7 @@ ghost use Rattle.fragments.specs.Progresses.{standing, begun};
 ghost use Rattle.transfer.specs.Carried.{Holds, Unmoved};
 
 use crate::failure::Failure;
-use crate::line::pass;
+use crate::line::Line;
 use crate::receiver::{Receiver, Taken};
 use fragments::{Progress, due};
 use message::Seal;
@@ -26,36 +26,25 @@ impl Receiver {
     // file's front holds more of it then, and after the last one the whole file; a failure changes nothing.
     pub fn take_next<S: Seal>(
         &mut self,
-        seal: &S,
+        line: &mut Line<S>,
         number: u16,
         file: &[u8],
-        message: &mut [u8],
-        text: &mut [u8],
     ) -> Result<Taken, Failure>
         ensures more { Holds self.old file.now → OnOk result (Holds self.new file.now) }
         ensures whole { Holds self.old file.now → IfOk result (λ t. t.fragment.last ≡ true → self.new.bytes.items ≡ file.now) }
         ensures kept { OnErr result (Unmoved self.old self.new) }
     {
         let so_far = self.progress.so_far();
-        let Some(fragment) = due(so_far, self.progress.size()) else {
-            return Err(Failure::NothingDue);
-        };
+        let fragment = due(so_far, self.progress.size()).ok_or(Failure::NothingDue)?;
         let start = so_far as usize;
         let end = start + fragment.length as usize;
-        if end > file.len() {
-            return Err(Failure::NothingDue);
-        }
-        let part = &file[start..end];
-        let passed = pass(seal, number, fragment.last, part, message, text)?;
-        let length = passed.length;
-        let opened = &text[0..length];
+        let part = file.get(start..end).ok_or(Failure::NothingDue)?;
+        let size = line.pass(number, fragment.last, part)?;
+        let opened = &line.text[..part.len()];
         let mut progress = self.progress;
         progress.accept(opened, fragment.last)?;
         self.bytes.extend_from_slice(opened)?;
         self.progress = progress;
-        Ok(Taken {
-            fragment,
-            size: passed.size,
-        })
+        Ok(Taken { fragment, size })
     }
 }

@@ -1,16 +1,17 @@
 // The way of a fragment from end to end: sealed into a message, and opened from it.
-ghost use Rattle.std.specs.Prelude.{◌≡◌, ◌≤◌, length, take, IfOk};
+ghost use Rattle.std.specs.Prelude.{◌≡◌, length, take, OnOk};
 
 use crate::failure::Failure;
 use kinds::Kind;
-use message::{Seal, receive, write};
+use message::{Awaited, Outgoing, Seal};
 use octets::equal;
 
-// The lengths of a message and of what it opened to.
-#[derive(Clone, Copy)]
-pub struct Passed {
-    pub size: usize,
-    pub length: usize,
+// A seal that both ends have, and the buffer that each of them lends.
+#[derive(Drop)]
+pub struct Line<'a, S> {
+    seal: &'a S,
+    message: [u8; 4124],
+    pub(crate) text: [u8; 4096],
 }
 
 // What the host takes from its source of randomness; here fixed, so that the program always writes the same.
@@ -24,36 +25,39 @@ fn kind_of(last: bool) -> Kind {
     }
 }
 
-// Seals a fragment into a message of that number and opens it again: what stands at the text's front is then the fragment.
-pub fn pass<S: Seal>(
-    seal: &S,
-    number: u16,
-    last: bool,
-    part: &[u8],
-    message: &mut [u8],
-    text: &mut [u8],
-) -> Result<Passed, Failure>
-    ensures bound { IfOk result (λ p. p.length ≤ length text.new) }
-    ensures same { IfOk result (λ p. take p.length text.new ≡ part.now) }
-{
-    let kind = kind_of(last);
-    let size = write(seal, kind, number, &RANDOM, part, b"", message)?;
-    if size > message.len() {
-        return Err(Failure::Altered);
+impl<'a, S: Seal> Line<'a, S> {
+    pub fn new(seal: &'a S) -> Line<'a, S> {
+        Line {
+            seal,
+            message: [0; 4124],
+            text: [0; 4096],
+        }
     }
-    let received = receive(
-        seal,
-        &[kind],
-        number.saturating_sub(1),
-        &message[0..size],
-        text,
-    )?;
-    let length = received.length;
-    if length > text.len() {
-        return Err(Failure::Altered);
+
+    // Seals a fragment into a message of that number and opens it again: what stands at the text's front is then the fragment.
+    // Answers the message's size.
+    pub fn pass(&mut self, number: u16, last: bool, part: &[u8]) -> Result<usize, Failure>
+        ensures { OnOk result (take (length part.now) self.new.text ≡ part.now) }
+    {
+        let kind = kind_of(last);
+        let outgoing = Outgoing {
+            kind,
+            number,
+            random: RANDOM,
+            payload: part,
+            after: b"",
+        };
+        let size = outgoing.write(self.seal, &mut self.message)?;
+        let message = self.message.get(..size).ok_or(Failure::Altered)?;
+        let awaited = Awaited {
+            kinds: &[kind],
+            last: number.saturating_sub(1),
+        };
+        let received = awaited.receive(self.seal, message, &mut self.text)?;
+        let opened = self.text.get(..received.length).ok_or(Failure::Altered)?;
+        if !equal(opened, part) {
+            return Err(Failure::Altered);
+        }
+        Ok(size)
     }
-    if !equal(&text[0..length], part) {
-        return Err(Failure::Altered);
-    }
-    Ok(Passed { size, length })
 }

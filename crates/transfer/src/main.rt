@@ -2,7 +2,7 @@
 // together again; once under each seal.
 #![tactic(auto)]
 
-ghost use Rattle.std.specs.Prelude.{◌≡◌, true, IfOk};
+ghost use Rattle.std.specs.Prelude.{◌≡◌, OnOk};
 ghost use Rattle.transfer.specs.Carried.{Holds};
 
 mod announcement;
@@ -13,7 +13,7 @@ mod receiver;
 
 use announcement::{Announcement, announce};
 use anyhow::anyhow;
-use failure::Failure;
+use line::Line;
 use message::Seal;
 use octets::equal;
 use receiver::{Receiver, Taken};
@@ -27,20 +27,18 @@ const KEY: [u8; 32] = [7; 32];
 
 const SESSION: [u8; 16] = [9; 16];
 
-// Every fragment from the first to the last, each with a line; false where it ends without the last one. Where it ends with the
-// last one, a receiver that held the front of the scan holds the scan.
+// Every fragment from the first to the last, each with a line. Where the last one came, a receiver that held the front of the scan
+// holds the scan.
 fn carry_all<S: Seal>(
     rt: &HostRuntime,
-    seal: &S,
+    line: &mut Line<S>,
     scan: &[u8],
     receiver: &mut Receiver,
-    message: &mut [u8],
-    text: &mut [u8],
-) -> anyhow::Result<bool>
-    ensures { Holds receiver.old scan.now → IfOk result (λ whole. whole ≡ true → receiver.new.bytes.items ≡ scan.now) }
+) -> anyhow::Result<()>
+    ensures { Holds receiver.old scan.now → OnOk result (receiver.new.bytes.items ≡ scan.now) }
 {
     for number in 1..65535u16 {
-        match receiver.take_next(seal, number, scan, message, text) {
+        match receiver.take_next(line, number, scan) {
             Ok(Taken { fragment, size }) => {
                 let length = fragment.length;
                 let last = if fragment.last { ", the last" } else { "" };
@@ -48,16 +46,16 @@ fn carry_all<S: Seal>(
                     "fragment {number}: {length} bytes in a message of {size}, opened again{last}"
                 )?;
                 if fragment.last {
-                    return Ok(true);
+                    return Ok(());
                 }
             }
             Err(failure) => {
                 println!(rt; "fragment {number}: {failure}")?;
-                return Ok(false);
+                break;
             }
         }
     }
-    Ok(false)
+    Err(anyhow!("the file did not come over whole"))
 }
 
 fn report(rt: &HostRuntime, announcement: &Announcement, received: &[u8]) -> anyhow::Result<()> {
@@ -79,11 +77,7 @@ fn carry_under<S: Seal>(
     announcement: &Announcement,
 ) -> anyhow::Result<()> {
     let mut receiver = Receiver::new(rt.alloc(), announcement.size, announcement.digest);
-    let mut message = [0u8; 4124];
-    let mut text = [0u8; 4096];
-    if !carry_all(rt, seal, scan, &mut receiver, &mut message, &mut text)? {
-        return Err(anyhow!("the file did not come over whole"));
-    }
+    carry_all(rt, &mut Line::new(seal), scan, &mut receiver)?;
     report(rt, announcement, &receiver.bytes)
 }
 
