@@ -1,6 +1,6 @@
 -- The steps of the loops.
 use Rattle.std.proofs.Common.{◌≡◌, ℕ, ◌+◌, ◌-◌, ◌*◌, ◌/◌, ◌<◌, ◌≤◌, min, Bool, true, false, eqb, List, [], ◌∷◌, ◌++◌, length, get_or, take, drop, is_some, Some, None, Option, sym, refl, ap, ◌∙◌, append_assoc, arith, eqb-true, leb-true}
-use borrow.Author.Tests.{clash, eqb-false}
+use borrow.Author.Tests.{clash}
 use borrow.Rule.Slice.PartMut.{put_mid}
 use Rattle.octets.specs.Fronts.{at_front, fits, placed}
 use Rattle.std.proofs.lemmas.List.{length-append, length-drop, length-take, nil_from_length, take-append-drop, take_rest}
@@ -76,39 +76,48 @@ encode-more (a ∷ []) h = refl
 encode-more (a ∷ b ∷ []) h = refl
 encode-more (a ∷ b ∷ c ∷ xs) h = refl
 
--- What is left of a list after its first three, or fewer.
-past_three : (xs : List ℕ) (n : ℕ) → n ≡ min (length xs) 3 → take (length xs - n) (drop n xs) ≡ drop 3 xs
-past_three [] n e = rw (e, take_rest [])
-past_three (a ∷ []) n e = rw (e, take_rest (a ∷ []))
-past_three (a ∷ b ∷ []) n e = rw (e, take_rest (a ∷ b ∷ []))
-past_three (a ∷ b ∷ c ∷ xs) n e =
-    let m : n ≡ 3 = omega arith in
-    rw (m, take_rest (a ∷ b ∷ c ∷ xs) 3)
-
-pub not_empty : (xs : List ℕ) → false ≡ eqb (length xs) 0 → 0 < length xs
-not_empty xs e = let n = eqb-false (length xs) 0 (sym e) in omega (arith, n)
-
 pub text_room : (rest out whole : List ℕ) (at : ℕ) → 0 < length rest → Left at (encode rest) out whole → at + 4 ≤ length out
 text_room rest out whole at h l =
     let e = length-encode rest in
     let r : at + length (encode rest) ≤ length out = l.0 in
     omega arith
 
-pub text-more : (rest out part whole : List ℕ) (at n : ℕ) → 0 < length rest → n ≡ min (length rest) 3 → part ≡ quad rest
-    → Left at (encode rest) out whole
-    → Left (at + 4) (encode (take (length rest - n) (drop n rest))) (put_mid at (at + 4 - at) out part) whole
-text-more rest out part whole at n h e f l =
+-- The first three bytes, or fewer, and those after them.
+quad-front : (part more : List ℕ) → length part ≡ min 3 (length (part ++ more)) → quad (part ++ more) ≡ quad part
+quad-front [] [] n = refl
+quad-front [] (x ∷ more) n = absurd (omega arith)
+quad-front (a ∷ []) [] n = refl
+quad-front (a ∷ []) (x ∷ more) n = absurd (omega arith)
+quad-front (a ∷ b ∷ []) [] n = refl
+quad-front (a ∷ b ∷ []) (x ∷ more) n = absurd (omega arith)
+quad-front (a ∷ b ∷ c ∷ part) more n = refl
+
+past-front : (part more : List ℕ) → length part ≡ min 3 (length (part ++ more)) → drop 3 (part ++ more) ≡ more
+past-front [] [] n = refl
+past-front [] (x ∷ more) n = absurd (omega arith)
+past-front (a ∷ []) [] n = refl
+past-front (a ∷ []) (x ∷ more) n = absurd (omega arith)
+past-front (a ∷ b ∷ []) [] n = refl
+past-front (a ∷ b ∷ []) (x ∷ more) n = absurd (omega arith)
+past-front (a ∷ b ∷ c ∷ []) more n = refl
+past-front (a ∷ b ∷ c ∷ d ∷ part) more n = let e = length-append part more in absurd (omega arith)
+
+pub text-more : (rest part more four out whole : List ℕ) (at : ℕ) → rest ≡ part ++ more → length part ≡ min 3 (length rest) → 0 < length rest
+    → four ≡ quad part → Left at (encode rest) out whole → Left (at + 4) (encode more) (put_mid at (at + 4 - at) out four) whole
+text-more rest part more four out whole at e n h f l =
     let k : at + 4 - at ≡ 4 = omega arith in
-    rw (past_three rest n e)
-    (left-more at (at + 4 - at) 4 out part (quad rest) (encode (drop 3 rest)) whole (length-quad rest) f k (rw (encode-more rest h) at l))
+    let m : length part ≡ min 3 (length (part ++ more)) = rw e at n in
+    let q : four ≡ quad rest = f ∙ sym (quad-front part more m) ∙ ap quad (sym e) in
+    let p : drop 3 rest ≡ more = ap (drop 3) e ∙ past-front part more m in
+    rw p at (left-more at (at + 4 - at) 4 out four (quad rest) (encode (drop 3 rest)) whole (length-quad rest) q k (rw (encode-more rest h) at l))
 
 encode-none : encode [] ≡ []
 unfolding encode
 encode-none = refl
 
-pub text-all : (rest out whole : List ℕ) (at : ℕ) → true ≡ eqb (length rest) 0 → Left at (encode rest) out whole → out ≡ whole
+pub text-all : (rest out whole : List ℕ) (at : ℕ) → length rest ≡ 0 → Left at (encode rest) out whole → out ≡ whole
 text-all rest out whole at e l =
-    let r : encode rest ≡ [] = ap encode (nil_from_length rest (eqb-true (length rest) 0 (sym e))) ∙ encode-none in
+    let r : encode rest ≡ [] = ap encode (nil_from_length rest e) ∙ encode-none in
     left-none at out whole (rw r at l)
 
 -- The bytes of a text.
