@@ -226,16 +226,15 @@ there : (x : Option (List ℕ)) → is_some x ≡ true → (xs : List ℕ) × (x
 there None e = absurd (clash e)
 there (Some xs) e = (xs, refl)
 
-some_counted : (x : Option (List ℕ)) → is_some (counted x) ≡ is_some x
-some_counted None = refl
-some_counted (Some xs) = refl
+pub some-counted : (x : Option (List ℕ)) → is_some (counted x) ≡ is_some x
+some-counted None = refl
+some-counted (Some xs) = refl
 
 -- A text decodes exactly where it is the encoding of some bytes.
-pub decides : (t : List ℕ) (r : Option ℕ) → r ≡ counted (decode t) → Decides (is_some r) (Canonical t)
-decides t r e =
-    let s : is_some r ≡ is_some (decode t) = ap is_some e ∙ some_counted (decode t) in (
-      λ h.
-          let d = there (decode t) (sym s ∙ h) in
-          record { bytes = d.0; small = decoded-bytes t d.0 d.1; encodes = encodes_back t d.0 d.1 },
-      λ k. s ∙ ap (λ x. is_some (decode x)) (sym k.encodes) ∙ ap is_some (decodes_back k.bytes k.small),
-    )
+pub decides : (t : List ℕ) (r : Bool) → r ≡ is_some (decode t) → Decides r (Canonical t)
+decides t r e = (
+  λ h.
+      let d = there (decode t) (sym e ∙ h) in
+      record { bytes = d.0; small = decoded-bytes t d.0 d.1; encodes = encodes_back t d.0 d.1 },
+  λ k. e ∙ ap (λ x. is_some (decode x)) (sym k.encodes) ∙ ap is_some (decodes_back k.bytes k.small),
+)

@@ -1,6 +1,7 @@
 -- What the parts of encoding and decoding pass to each other.
-use Rattle.std.specs.Prelude.{ℕ, ◌<◌, ◌≤◌, List, [], ◌∷◌, length, take, Some, None, Option}
+use Rattle.std.specs.Prelude.{ℕ, ◌<◌, List, [], ◌∷◌, length, Some, None, Option}
 use Rattle.base64_text.specs.declared.decoding.Group.{Group}
+use Rattle.base64_text.specs.declared.decoding.Group.TheVariants.{One, Two, Three}
 use Rattle.base64_text.specs.Base64.{one, two, three}
 
 -- How many bytes there are, where there are some.
@@ -16,14 +17,10 @@ quad (a ∷ b ∷ []) = two a b
 quad (a ∷ b ∷ c ∷ rest) = three a b c
 
 -- The bytes that a group holds.
-abbrev pub held : Option Group → Option (List ℕ)
-held None = None
-held (Some g) = Some (take g.count g.bytes)
-
--- A group holds at most three.
-abbrev pub AtMostThree : Option Group → Type 0
-AtMostThree None = Unit {0}
-AtMostThree (Some g) = g.count ≤ 3
+abbrev pub held : Group → List ℕ
+held (One bs) = bs
+held (Two bs) = bs
+held (Three bs) = bs
 
 -- A letter's number has six bits.
 abbrev pub SixBits : Option ℕ → Type 0

@@ -32,7 +32,7 @@ fn quad_of(bytes: &[u8]) -> [u8; 4]
 pub(crate) fn encoded_length(bytes: &[u8]) -> usize
     ensures { result ≡ length (encode bytes.now) }
 {
-    (bytes.len() + 2) / 3 * 4
+    bytes.len().div_ceil(3) * 4
 }
 
 // Writes the text of bytes, which has room.
@@ -40,11 +40,7 @@ pub(crate) fn write_text(bytes: &[u8], out: &mut [u8])
     requires { length (encode bytes.now) ≤ length out.old }
     ensures { out.new ≡ at_front (encode bytes.now) out.old }
 {
-    let mut rest = bytes;
-    let mut at = 0;
-    while !rest.is_empty() {
-        out[at..at + 4].copy_from_slice(&quad_of(rest));
-        at += 4;
-        rest = &rest[rest.len().min(3)..];
+    for (i, part) in bytes.chunks(3).enumerate() {
+        out[4 * i..4 * i + 4].copy_from_slice(&quad_of(part));
     }
 }

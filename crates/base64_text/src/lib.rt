@@ -44,9 +44,7 @@ pub fn decode(text: &[u8], out: &mut [u8]) -> Result<usize, Undecoded>
     ensures answer { result ≡ decoded (decode text.now) out.old }
     ensures buffer { out.new ≡ placed (decode text.now) out.old }
 {
-    let Some(count) = decoded_length(text) else {
-        return Err(Undecoded::NotCanonical);
-    };
+    let count = decoded_length(text).ok_or(Undecoded::NotCanonical)?;
     if out.len() < count {
         return Err(Undecoded::NoRoom);
     }

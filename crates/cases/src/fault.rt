@@ -5,7 +5,7 @@ ghost use Rattle.cases.specs.declared.fault.Fault.TheVariants.{Memory};
 use std::alloc::{AllocError, AllocFailed};
 use std::fmt;
 
-#[derive(Drop)]
+#[derive(Clone, Copy, PartialEq, Eq, Debug)]
 pub enum Fault {
     Form,
     Count,
@@ -17,6 +17,7 @@ pub enum Fault {
     Memory,
 }
 
+// Written by hand, since clauses name the fault that a `?` makes, and a derived conversion tells them none.
 impl From<AllocError> for Fault {
     ghost from_gives = { λ _ r. r ≡ Memory };
 

@@ -1,7 +1,7 @@
 // Bytes as lower-case hexadecimal, the empty string as `-`.
 use std::fmt;
 
-#[derive(Drop)]
+#[derive(Clone, Copy, PartialEq, Eq, Debug)]
 pub struct Hex<'a>(pub &'a [u8]);
 
 impl fmt::Display for Hex<'_> {

@@ -7,6 +7,7 @@ ghost use Rattle.std.specs.Str.Parse.{ParsesUnsigned};
 use crate::fault::Fault;
 use std::alloc::Global;
 
+// Not the one of `numerals`: a program that tests the texts does not read its cases by the crate under test.
 fn digit(b: u8) -> Option<u8>
     ensures { result ≡ digit b }
 {
@@ -30,13 +31,11 @@ fn decoded(heap: Global, digits: &[u8]) -> Result<Vec<u8>, Fault>
     ensures fault { IfErr result (λ e. (e ≡ Memory) ⊎ (decoded digits.now ≡ Err e)) }
 {
     let mut out = Vec::new(heap);
-    let mut rest = digits;
-    while rest.len() >= 2 {
-        out.push(byte(rest[0], rest[1])?)?;
-        rest = &rest[2..];
-    }
-    if rest.len() == 1 {
-        return Err(Fault::Odd);
+    for pair in digits.chunks(2) {
+        let [high, low] = pair else {
+            return Err(Fault::Odd);
+        };
+        out.push(byte(*high, *low)?)?;
     }
     Ok(out)
 }
@@ -58,10 +57,7 @@ pub fn array<const N: usize>(heap: Global, word: &str) -> Result<[u8; N], Fault>
     ensures bytes { IfOk result (λ a. exactly N (worded word.now) ≡ Ok a) }
     ensures fault { IfErr result (λ e. (e ≡ Memory) ⊎ (exactly N (worded word.now) ≡ Err e)) }
 {
-    match <[u8; N]>::try_from(bytes(heap, word)?.as_slice()) {
-        Ok(all) => Ok(all),
-        Err(_) => Err(Fault::Length(N)),
-    }
+    <[u8; N]>::try_from(bytes(heap, word)?.as_slice()).or(Err(Fault::Length(N)))
 }
 
 // A decimal number, which a plus may begin.
@@ -69,8 +65,5 @@ pub fn number(word: &str) -> Result<u32, Fault>
     ensures value { ParsesUnsigned 32 10 word.now result }
     ensures fault { IfErr result (λ e. e ≡ Number) }
 {
-    match word.parse::<u32>() {
-        Ok(n) => Ok(n),
-        Err(_) => Err(Fault::Number),
-    }
+    word.parse().map_err(|_| Fault::Number)
 }

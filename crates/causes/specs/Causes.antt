@@ -1,8 +1,11 @@
 -- The causes for which a command is refused, their numbers and their words.
-use Rattle.std.specs.Prelude.{◌≡◌, ℕ, cond, List, Some, None, codes, Option, MatchOption, ◌==◌, ◌≢◌}
+use Rattle.std.specs.Prelude.{◌≡◌, ℕ, cond, List, Some, None, codes, Option, Result, MatchOption, ◌==◌, ◌≢◌}
 use Rattle.octets.specs.Equality.{same}
 use Rattle.std.specs.List.{AllByRecursion}
+use Rattle.std.specs.Option.{ok_or}
 use Rattle.causes.specs.declared.cause.Cause.{Cause}
+use Rattle.causes.specs.declared.cause.UnknownCause.{UnknownCause}
+use Rattle.causes.specs.declared.cause.UnknownWords.{UnknownWords}
 use Rattle.causes.specs.declared.cause.Cause.TheVariants.{NoSpace, Held, BadName, PathTooLong, NoSuchName, AlreadyThere, NotEmpty, AtTop, ListTooLong}
 
 -- The number of a cause.
@@ -54,6 +57,13 @@ cause_of_word t =
     (cond (same t (codes "not empty")) (Some NotEmpty)
     (cond (same t (codes "already at the top")) (Some AtTop)
     (cond (same t (codes "list too long")) (Some ListTooLong) None))))))))
+
+-- The same as answers.
+abbrev pub numbered : ℕ → Result Cause UnknownCause
+numbered n = ok_or (cause_of n) (record { 0 = n })
+
+abbrev pub worded : List ℕ → Result Cause UnknownWords
+worded t = ok_or (cause_of_word t) (record {})
 
 -- Each cause's number is of that cause, and a number that is of a cause is that cause's.
 abbrev pub NumbersTellCauses : Type 0

@@ -1,42 +1,53 @@
 // The nine causes, their numbers and their words.
 ghost use Rattle.std.specs.Prelude.{◌≡◌};
-ghost use Rattle.causes.specs.Causes.{number, word, cause_of, cause_of_word};
+ghost use Rattle.causes.specs.Causes.{number, word, numbered, worded};
 
 use octets::equal;
 
+// Each stands with the number under which it is given.
 #[derive(Clone, Copy, PartialEq, Eq, Debug)]
 pub enum Cause {
     // the store has no space left
-    NoSpace,
+    NoSpace = 26,
     // its retention keeps it from being removed
-    Held,
-    BadName,
-    PathTooLong,
-    NoSuchName,
-    AlreadyThere,
+    Held = 27,
+    BadName = 31,
+    PathTooLong = 32,
+    NoSuchName = 33,
+    AlreadyThere = 34,
     // the directory is not empty
-    NotEmpty,
+    NotEmpty = 35,
     // there is no directory above
-    AtTop,
-    ListTooLong,
+    AtTop = 36,
+    ListTooLong = 37,
 }
 
+// A number that is of no cause.
+#[derive(Clone, Copy, PartialEq, Eq, Debug)]
+pub struct UnknownCause(pub u8);
+
+// Words that say no cause.
+#[derive(Clone, Copy, PartialEq, Eq, Debug)]
+pub struct UnknownWords;
+
 impl Cause {
+    const ALL: [Cause; 9] = [
+        Cause::NoSpace,
+        Cause::Held,
+        Cause::BadName,
+        Cause::PathTooLong,
+        Cause::NoSuchName,
+        Cause::AlreadyThere,
+        Cause::NotEmpty,
+        Cause::AtTop,
+        Cause::ListTooLong,
+    ];
+
     // The number under which it is given.
     pub fn number(self) -> u8
         ensures { result ≡ number self }
     {
-        match self {
-            Cause::NoSpace => 26,
-            Cause::Held => 27,
-            Cause::BadName => 31,
-            Cause::PathTooLong => 32,
-            Cause::NoSuchName => 33,
-            Cause::AlreadyThere => 34,
-            Cause::NotEmpty => 35,
-            Cause::AtTop => 36,
-            Cause::ListTooLong => 37,
-        }
+        self as u8
     }
 
     // The words that say it.
@@ -55,49 +66,41 @@ impl Cause {
             Cause::ListTooLong => b"list too long",
         }
     }
+}
 
-    // The cause of a number, if it is one.
-    pub fn of(number: u8) -> Option<Cause>
-        ensures { result ≡ cause_of number }
-    {
+// The cause of a number.
+impl TryFrom<u8> for Cause {
+    type Error = UnknownCause;
+
+    ghost try_from_gives = { λ n r. r ≡ numbered n };
+
+    fn try_from(number: u8) -> Result<Cause, UnknownCause> {
         match number {
-            26 => Some(Cause::NoSpace),
-            27 => Some(Cause::Held),
-            31 => Some(Cause::BadName),
-            32 => Some(Cause::PathTooLong),
-            33 => Some(Cause::NoSuchName),
-            34 => Some(Cause::AlreadyThere),
-            35 => Some(Cause::NotEmpty),
-            36 => Some(Cause::AtTop),
-            37 => Some(Cause::ListTooLong),
-            _ => None,
+            26 => Ok(Cause::NoSpace),
+            27 => Ok(Cause::Held),
+            31 => Ok(Cause::BadName),
+            32 => Ok(Cause::PathTooLong),
+            33 => Ok(Cause::NoSuchName),
+            34 => Ok(Cause::AlreadyThere),
+            35 => Ok(Cause::NotEmpty),
+            36 => Ok(Cause::AtTop),
+            37 => Ok(Cause::ListTooLong),
+            _ => Err(UnknownCause(number)),
         }
     }
+}
 
-    // The cause that the words say, if they say one.
-    pub fn of_word(word: &[u8]) -> Option<Cause>
-        ensures { result ≡ cause_of_word word.now }
-    {
-        if equal(word, b"no space") {
-            Some(Cause::NoSpace)
-        } else if equal(word, b"held") {
-            Some(Cause::Held)
-        } else if equal(word, b"bad name") {
-            Some(Cause::BadName)
-        } else if equal(word, b"path too long") {
-            Some(Cause::PathTooLong)
-        } else if equal(word, b"no such name") {
-            Some(Cause::NoSuchName)
-        } else if equal(word, b"already there") {
-            Some(Cause::AlreadyThere)
-        } else if equal(word, b"not empty") {
-            Some(Cause::NotEmpty)
-        } else if equal(word, b"already at the top") {
-            Some(Cause::AtTop)
-        } else if equal(word, b"list too long") {
-            Some(Cause::ListTooLong)
-        } else {
-            None
-        }
+// The cause that some words say.
+impl TryFrom<&[u8]> for Cause {
+    type Error = UnknownWords;
+
+    ghost try_from_gives = { λ t r. r ≡ worded t.now };
+
+    fn try_from(words: &[u8]) -> Result<Cause, UnknownWords> {
+        Cause::ALL
+            .iter()
+            .copied()
+            .find(|cause| equal(words, cause.word()))
+            .ok_or(UnknownWords)
     }
 }

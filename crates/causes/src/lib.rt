@@ -4,5 +4,5 @@
 mod cause;
 mod laws;
 
-pub use cause::Cause;
+pub use cause::{Cause, UnknownCause, UnknownWords};
 pub use laws::causes_told;

@@ -1,18 +1,17 @@
--- Letters, one after the other.
-use Rattle.std.proofs.Common.{◌≡◌, ℕ, ◌+◌, ◌<◌, ◌≤◌, Bool, true, false, List, length, get_or, drop, sym, ◌∙◌}
-use Rattle.std.proofs.lemmas.List.{drop_more, drop_all}
-use Rattle.names.specs.Names.{letter, letters}
+-- One dot and two dots, as tests of the bytes.
+use Rattle.std.proofs.Common.{◌≡◌, ℕ, ◌&&◌, List, [], ◌∷◌, length, get_or, eqb, refl, arith}
+use Rattle.std.proofs.lemmas.Bool.Decides.{nat_tests}
+use Rattle.octets.specs.Equality.{same}
 
--- What the test r of the byte at i says of the bytes from i on.
-module _ (t : List ℕ) (i : ℕ) (u : Bool) where
-  pub letter_more : (r : Bool) → i < length t → r ≡ letter (get_or t i 0) → r ≡ true → letters (drop i t) ≡ u → letters (drop (i + 1) t) ≡ u
-  unfolding letters
-  letter_more r h e f inv = rw (drop_more t i 0 h, sym e ∙ f) at inv
+pub same_dot : (t : List ℕ) → same t (46 ∷ []) ≡ (eqb (length t) 1 && eqb (get_or t 0 0) 46)
+unfolding same
+same_dot [] = refl
+same_dot (a ∷ []) = grind (arith, nat_tests)
+same_dot (a ∷ b ∷ t) = grind (arith, nat_tests)
 
-  pub letter_stops : (r : Bool) → i < length t → r ≡ letter (get_or t i 0) → r ≡ false → letters (drop i t) ≡ u → false ≡ u
-  unfolding letters
-  letter_stops r h e f inv = rw (drop_more t i 0 h, sym e ∙ f) at inv
-
-  pub letters_done : length t ≤ i → letters (drop i t) ≡ u → true ≡ u
-  unfolding letters
-  letters_done h inv = rw (drop_all i t h) at inv
+pub same_dots : (t : List ℕ) → same t (46 ∷ 46 ∷ []) ≡ (eqb (length t) 2 && (eqb (get_or t 0 0) 46 && eqb (get_or t 1 0) 46))
+unfolding same
+same_dots [] = refl
+same_dots (a ∷ []) = grind (arith, nat_tests)
+same_dots (a ∷ b ∷ []) = grind (arith, nat_tests)
+same_dots (a ∷ b ∷ c ∷ t) = grind (arith, nat_tests)

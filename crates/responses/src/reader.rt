@@ -1,6 +1,7 @@
 // A response read from its text.
 ghost use Rattle.std.specs.Prelude.{◌≡◌};
-ghost use Rattle.fields.specs.Takes.{piece, left, ending, shown};
+ghost use Rattle.fields.specs.Takes.{piece, left, ending, shown, must};
+ghost use Rattle.words.specs.Words.{word_of};
 ghost use Rattle.responses.specs.Replies.{placed_meant, told, one_field, path_told, refusal_told, listing_told, file_told, granted_told, told_of, reply_of};
 
 use crate::response::{Outcome, PlacedResponse, Places, Response, Results};
@@ -89,6 +90,13 @@ fn granted<'a>(tells: Tells, fields: Fields<'a>) -> Result<Results<'a>, WrongFie
     }
 }
 
+// The word that the first field is.
+fn word(first: &Field<'_>) -> Result<Word, WrongField>
+    ensures { result ≡ must 1 (piece first.now) (word_of first.now.bytes.now) }
+{
+    Word::try_from(first.bytes).ok().ok_or(first.wrong(1))
+}
+
 fn results<'a>(word: Word, grants: bool, fields: Fields<'a>) -> Result<Results<'a>, WrongField>
     ensures { shown told result ≡ told_of grants word (ending fields.entry) (left fields.entry) }
 {
@@ -105,12 +113,12 @@ impl<'a> Response<'a> {
         ensures { shown placed_meant result ≡ reply_of text.now }
     {
         let (first, rest) = Fields::of(text).take(1)?;
-        let word = Word::of(first.bytes).ok_or(first.wrong(1))?;
+        let word = word(&first)?;
         let (request, rest) = rest.take(2)?;
         numerals::digest(request.bytes).ok_or(request.wrong(2))?;
         let (status, rest) = rest.take(3)?;
-        let grants = Status::grants(word, status.bytes).ok_or(status.wrong(3))?;
-        let results = results(word, grants, rest)?;
+        let given = Status::of(word, status.bytes).ok_or(status.wrong(3))?;
+        let results = results(word, given.grants(), rest)?;
         Ok(PlacedResponse {
             response: Response {
                 word,

@@ -1,5 +1,5 @@
 -- The faults of a store: their numbers and levels.
-use Rattle.std.specs.Prelude.{ℕ, Ok, Err, Result}
+use Rattle.std.specs.Prelude.{ℕ, Some, None, Ok, Err, Option, Result}
 use Rattle.store.specs.Meaning.{up}
 use Rattle.store.specs.declared.fault.StoreFault.{StoreFault}
 use Rattle.store.specs.declared.fault.StoreFault.TheVariants.{ShortBuffer, DraftState, NoSuchKey, KeyExists, NoSpace, Held, WrongSize, BadKey}
@@ -15,16 +15,16 @@ number (Held l) = 27
 number WrongSize = 28
 number BadKey = 31
 
--- The level of the layer that lacks space or holds; 0 where a fault has none.
-abbrev pub level : StoreFault → ℕ
-level ShortBuffer = 0
-level DraftState = 0
-level NoSuchKey = 0
-level KeyExists = 0
-level (NoSpace l) = l
-level (Held l) = l
-level WrongSize = 0
-level BadKey = 0
+-- The level of the layer that lacks space or holds; none where a fault has none.
+abbrev pub level : StoreFault → Option ℕ
+level ShortBuffer = None
+level DraftState = None
+level NoSuchKey = None
+level KeyExists = None
+level (NoSpace l) = Some l
+level (Held l) = Some l
+level WrongSize = None
+level BadKey = None
 
 -- A fault from below, one layer up.
 abbrev pub raise : StoreFault → StoreFault

@@ -22,7 +22,7 @@ pub enum StoreFault {
 }
 
 impl StoreFault {
-    // The number under which a store gives this refusal.
+    // The number under which a store gives this refusal; a match, since variants with a level cannot carry it as a discriminant.
     pub fn number(&self) -> u8
         ensures { result ≡ number self.now }
     {
@@ -38,19 +38,19 @@ impl StoreFault {
         }
     }
 
-    // The level of the layer that lacks space or holds; 0 where a fault has none.
-    pub fn level(&self) -> u8
+    // The level of the layer that lacks space or holds; none where a fault has none.
+    pub fn level(&self) -> Option<u8>
         ensures { result ≡ level self.now }
     {
         match self {
-            StoreFault::NoSpace(level) | StoreFault::Held(level) => *level,
-            _ => 0,
+            StoreFault::NoSpace(level) | StoreFault::Held(level) => Some(*level),
+            _ => None,
         }
     }
 }
 
 // A fault of the store below a layer. The `?` that passes it up raises its level by one, to 255 at most.
-#[derive(Clone, Copy)]
+#[derive(Clone, Copy, PartialEq, Eq, Debug)]
 pub struct Lower(pub StoreFault);
 
 impl From<Lower> for StoreFault {
@@ -69,18 +69,12 @@ impl From<Lower> for StoreFault {
 pub fn from_below<T>(answer: Result<T, StoreFault>) -> Result<T, Lower>
     ensures { result ≡ lowered answer }
 {
-    match answer {
-        Ok(x) => Ok(x),
-        Err(fault) => Err(Lower(fault)),
-    }
+    answer.map_err(Lower)
 }
 
 // The level that the store below told, as a layer tells it.
 pub fn raised_level(level: Option<u8>) -> Option<u8>
     ensures { result ≡ option_map up level }
 {
-    match level {
-        Some(level) => Some(level.saturating_add(1)),
-        None => None,
-    }
+    level.map(|level| level.saturating_add(1))
 }

@@ -10,20 +10,15 @@ use crate::fault::StoreFault;
 pub fn check_key(key: &[u8]) -> Result<(), StoreFault>
     ensures { Tells (bad_key key.now) result tt }
 {
-    if key.len() < 1 || key.len() > 96 {
-        return Err(StoreFault::BadKey);
+    if (1..=96).contains(&key.len()) {
+        Ok(())
+    } else {
+        Err(StoreFault::BadKey)
     }
-    Ok(())
 }
 
 // Whether a key is strictly below another in byte order.
 pub fn is_below(a: &[u8], b: &[u8]) -> bool
-    ensures { result ≡ below a.now b.now }
-{
-    comes_first(a, b)
-}
-
-fn comes_first(a: &[u8], b: &[u8]) -> bool
     ensures { result ≡ below a.now b.now }
 {
     a < b

@@ -14,7 +14,7 @@ pub trait ReadStore {
     // Their keys rise, and keys, sizes and days keep to their limits; each implementation shows it.
     ghost lawful: { (s : Self) → Lawful (entries s) };
 
-    // Size and day of the entry of a key; none where it is absent.
+    // Size and day of the entry of a key, as the pair that every store is bound to answer; none where it is absent.
     fn look(&self, key: &[u8]) -> Result<Option<(u32, u32)>, StoreFault>
         ensures { Looked (entries self.now) key.now result };
 

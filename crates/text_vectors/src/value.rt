@@ -40,16 +40,16 @@ pub(crate) fn cause(heap: Global, word: &str) -> Result<Answered, Fault> {
     let Ok(number) = u8::try_from(number(word)?) else {
         return Err(Fault::Length(1));
     };
-    match Cause::of(number) {
-        Some(cause) => Ok(Answered::Bytes(cause.word().to_vec(heap)?)),
-        None => Ok(Answered::Nothing),
+    match Cause::try_from(number) {
+        Ok(cause) => Ok(Answered::Bytes(cause.word().to_vec(heap)?)),
+        Err(_) => Ok(Answered::Nothing),
     }
 }
 
 // The number of the cause of some words.
 pub(crate) fn cause_word(heap: Global, word: &str) -> Result<Answered, Fault> {
-    match Cause::of_word(&bytes(heap, word)?) {
-        Some(cause) => Ok(Answered::Number(u64::from(cause.number()))),
-        None => Ok(Answered::Nothing),
+    match Cause::try_from(bytes(heap, word)?.as_slice()) {
+        Ok(cause) => Ok(Answered::Number(u64::from(cause.number()))),
+        Err(_) => Ok(Answered::Nothing),
     }
 }

@@ -44,6 +44,19 @@ tells Del = t.Nothing
 tells Upl = t.Nothing
 tells Dnl = t.File
 
+-- Whether a status grants.
+abbrev pub grants : Status → Bool
+grants s.Success = true
+grants s.Failure = false
+grants s.Accept = true
+grants s.Reject = false
+
+-- The status of the word's family that a field is, if it is one of the two.
+abbrev pub status_read : Word → List ℕ → Option Status
+status_read w f =
+    cond (same f (status_text (granting w))) (Some (granting w))
+    (cond (same f (status_text (refusing w))) (Some (refusing w)) None)
+
 -- Whether a field is the status of the word's family that grants, or the one that does not.
 abbrev pub granted : Word → List ℕ → Option Bool
 granted w f =

@@ -1,7 +1,8 @@
 -- The words of the seven commands.
-use Rattle.std.specs.Prelude.{◌≡◌, ℕ, cond, List, Some, None, codes, Option}
+use Rattle.std.specs.Prelude.{◌≡◌, ℕ, cond, List, Some, None, codes, Option, Result, ok_or}
 use Rattle.octets.specs.Equality.{same}
 use Rattle.words.specs.declared.word.Word.{Word}
+use Rattle.words.specs.declared.word.UnknownWord.{UnknownWord}
 use Rattle.words.specs.declared.word.Word.TheVariants.{Pwd, Lst, Chd, Mkd, Del, Upl, Dnl}
 
 abbrev pub word_text : Word → List ℕ
@@ -23,6 +24,10 @@ word_of f =
     (cond (same f (codes "del")) (Some Del)
     (cond (same f (codes "upl")) (Some Upl)
     (cond (same f (codes "dnl")) (Some Dnl) None))))))
+
+-- The same as an answer.
+abbrev pub word_read : List ℕ → Result Word UnknownWord
+word_read f = ok_or (word_of f) (record {})
 
 -- A word's text is read as that word, and a field that is read as a word is its text.
 pub record WordsTold : Type 0 where

@@ -7,4 +7,4 @@ mod word;
 
 pub use laws::words_told;
 pub use status::{Status, Tells};
-pub use word::Word;
+pub use word::{UnknownWord, Word};

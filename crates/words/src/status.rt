@@ -1,6 +1,6 @@
 // Statuses, and what a response tells.
-ghost use Rattle.std.specs.Prelude.{◌≡◌};
-ghost use Rattle.words.specs.Statuses.{status_text, granting, refusing, granted, tells};
+ghost use Rattle.std.specs.Prelude.{◌≡◌, option_map};
+ghost use Rattle.words.specs.Statuses.{status_text, granting, refusing, grants, status_read, granted, tells};
 
 use crate::word::Word;
 use octets::equal;
@@ -46,19 +46,6 @@ impl Status {
         }
     }
 
-    // Whether a field is the status that grants a command, or the one that refuses it; none where it is neither.
-    pub fn grants(word: Word, field: &[u8]) -> Option<bool>
-        ensures { result ≡ granted word field.now }
-    {
-        if equal(field, Status::granting(word).text()) {
-            return Some(true);
-        }
-        if equal(field, Status::refusing(word).text()) {
-            return Some(false);
-        }
-        None
-    }
-
     // The status that refuses it.
     pub fn refusing(word: Word) -> Status
         ensures { result ≡ refusing word }
@@ -67,6 +54,24 @@ impl Status {
             Word::Upl | Word::Dnl => Status::Reject,
             _ => Status::Failure,
         }
+    }
+
+    // The status of a word's family that a field is, if it is one of the two.
+    pub fn of(word: Word, field: &[u8]) -> Option<Status>
+        ensures status { result ≡ status_read word field.now }
+        ensures grants { option_map grants result ≡ granted word field.now }
+    {
+        [Status::granting(word), Status::refusing(word)]
+            .iter()
+            .copied()
+            .find(|status| equal(field, status.text()))
+    }
+
+    // Whether it grants a command.
+    pub fn grants(self) -> bool
+        ensures { result ≡ grants self }
+    {
+        matches!(self, Status::Success | Status::Accept)
     }
 }
 

@@ -1,6 +1,6 @@
 // The words of the seven commands.
 ghost use Rattle.std.specs.Prelude.{◌≡◌};
-ghost use Rattle.words.specs.Words.{word_text, word_of};
+ghost use Rattle.words.specs.Words.{word_text, word_read};
 
 use octets::equal;
 
@@ -15,7 +15,21 @@ pub enum Word {
     Dnl,
 }
 
+// A field that is no word.
+#[derive(Clone, Copy, PartialEq, Eq, Debug)]
+pub struct UnknownWord;
+
 impl Word {
+    const ALL: [Word; 7] = [
+        Word::Pwd,
+        Word::Lst,
+        Word::Chd,
+        Word::Mkd,
+        Word::Del,
+        Word::Upl,
+        Word::Dnl,
+    ];
+
     // Its three characters.
     pub fn text(self) -> &'static [u8]
         ensures { result.now ≡ word_text self }
@@ -30,27 +44,19 @@ impl Word {
             Word::Dnl => b"dnl",
         }
     }
+}
 
-    // The word that a field is, if it is one.
-    pub fn of(field: &[u8]) -> Option<Word>
-        ensures { result ≡ word_of field.now }
-    {
-        if equal(field, b"pwd") {
-            Some(Word::Pwd)
-        } else if equal(field, b"lst") {
-            Some(Word::Lst)
-        } else if equal(field, b"chd") {
-            Some(Word::Chd)
-        } else if equal(field, b"mkd") {
-            Some(Word::Mkd)
-        } else if equal(field, b"del") {
-            Some(Word::Del)
-        } else if equal(field, b"upl") {
-            Some(Word::Upl)
-        } else if equal(field, b"dnl") {
-            Some(Word::Dnl)
-        } else {
-            None
-        }
+// The word that a field is.
+impl TryFrom<&[u8]> for Word {
+    type Error = UnknownWord;
+
+    ghost try_from_gives = { λ f r. r ≡ word_read f.now };
+
+    fn try_from(field: &[u8]) -> Result<Word, UnknownWord> {
+        Word::ALL
+            .iter()
+            .copied()
+            .find(|word| equal(field, word.text()))
+            .ok_or(UnknownWord)
     }
 }

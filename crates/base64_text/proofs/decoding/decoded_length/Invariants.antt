@@ -1,12 +1,8 @@
-use Rattle.std.proofs.Common.{◌≡◌, ◌+◌, ◌≤◌, length}
+use Rattle.std.proofs.Common.{◌≡◌, ◌*◌}
 use Rattle.base64_text.specs.Base64.{decode}
 use Rattle.base64_text.specs.Groups.{counted}
-use Rattle.base64_text.proofs.Steps.{plus}
+use Rattle.base64_text.proofs.Steps.{plus, rest}
 use Rattle.base64_text.proofs.decoding.decoded_length.Given as goal
 
-abbrev pub invariant-loop-rest : goal.invariant-loop-rest
-invariant-loop-rest l =
-    (plus l.total (counted (decode l.rest)) ≡ counted (decode l.text)) × (l.total + length l.rest ≤ length l.text)
-
-abbrev pub decreases-loop-rest : goal.decreases-loop-rest
-decreases-loop-rest l = length l.rest
+abbrev pub invariant-loop-a : goal.invariant-loop-a
+invariant-loop-a l = plus (3 * l.a-index) (counted (decode (rest l.text l.a-index))) ≡ counted (decode l.text)

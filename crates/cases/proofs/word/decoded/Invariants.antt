@@ -1,10 +1,9 @@
-use Rattle.std.proofs.Common.{◌≡◌, length, vec_items}
+use Rattle.std.proofs.Common.{◌≡◌, vec_items}
+use Rattle.std.specs.Slice.Iter.{chunks_rest, chunks_size}
 use Rattle.cases.specs.Hex.{decoded}
 use Rattle.cases.proofs.Decoding.{onto}
 use Rattle.cases.proofs.word.decoded.Given as goal
 
-abbrev pub invariant-loop-rest : goal.invariant-loop-rest
-invariant-loop-rest l = decoded l.initial.digits ≡ onto (vec_items l.out) (decoded l.rest)
-
-abbrev pub decreases-loop-rest : goal.decreases-loop-rest
-decreases-loop-rest l = length l.rest
+abbrev pub invariant-loop-pair : goal.invariant-loop-pair
+invariant-loop-pair l =
+    (chunks_size l.pair-iterator ≡ 2) × (decoded l.initial.digits ≡ onto (vec_items l.out) (decoded (chunks_rest l.pair-iterator)))

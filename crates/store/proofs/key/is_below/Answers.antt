@@ -3,7 +3,7 @@ use Rattle.std.specs.Ordering.{is_lt, nat_cmp}
 use Rattle.std.proofs.lemmas.Cmp.{same_from_slice_cmp_tested}
 use Rattle.std.proofs.lemmas.Bool.Decides.{nat_tests}
 use Rattle.store.specs.Meaning.{below}
-use Rattle.store.proofs.key.comes_first.Goals as goal
+use Rattle.store.proofs.key.is_below.Goals as goal
 
 pub returns : goal.returns
 returns c =
