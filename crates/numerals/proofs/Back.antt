@@ -7,7 +7,7 @@ use Rattle.std.proofs.lemmas.Fmt.{decimal_digit, decimal_nonempty, decimal-digit
 use Rattle.std.proofs.lemmas.Str.Parse.{IsNumeralModel, numerals_by_fold}
 use Rattle.std.proofs.lemmas.Bool.{and_parts, cases_lt, eq-eqb, eqb-false, eqb-true, lt-ltb, ltb-true, ne_eqb, not-true, not_from_false}
 use Rattle.std.proofs.lemmas.Bool.Decides.{nat_tests}
-use Rattle.numerals.specs.Decimals.{only_digits, plain, number_after, decimal_of}
+use Rattle.numerals.specs.Decimals.{only_digits, plain, number_after, decimal_as, decimal_of}
 use Rattle.numerals.specs.Digests.{digit_of, byte_of, joined, bytes_of, sized, digest_of}
 use Rattle.numerals.specs.Laws.{DecimalsReadBack, DigestsReadBack}
 
@@ -28,7 +28,7 @@ pub record Reads (k n : ℕ) (t : List ℕ) : Type 0 where
   pub within : n < k
 
 pub reads : (k n : ℕ) (t : List ℕ) → decimal_of k t ≡ Some n → Reads k n t
-unfolding decimal_of
+unfolding decimal_as
 reads k n t e =
     let s = some_only (plain t && (only_digits t && ltb (number_after 0 t) k)) (number_after 0 t) n e in
     let p = and_parts (plain t) (only_digits t && ltb (number_after 0 t) k) s.0 in
@@ -36,7 +36,7 @@ reads k n t e =
     record { plainly = p.0; digits = q.0; number = s.1; within = omega (arith, ltb-true (number_after 0 t) k q.1, s.1) }
 
 is_read : (k n : ℕ) (t : List ℕ) → Reads k n t → decimal_of k t ≡ Some n
-unfolding decimal_of
+unfolding decimal_as
 is_read k n t r = rw (r.plainly, r.digits, r.number, lt-ltb n k r.within)
 
 lead_plain : (t : List ℕ) → 0 < length t → (get_or t 0 0 ≡ 48 → length t ≡ 1) → plain t ≡ true
