@@ -1,46 +1,38 @@
 -- A text laid out from its fields.
-use Rattle.std.proofs.Common.{◌≡◌, ℕ, ◌+◌, ◌-◌, ◌<◌, ◌≤◌, Bool, true, false, cond, leb, List, [], ◌∷◌, ◌++◌, length, get_or, take, drop, set, Some, None, Ok, Err, sym, refl, ap, ◌∙◌, append_assoc, arith, Bor}
+use Rattle.std.proofs.Common.{◌≡◌, ℕ, ◌+◌, ◌-◌, ◌<◌, ◌≤◌, Bool, true, false, cond, not, ◌&&◌, ◌||◌, eqb, leb, List, [], ◌∷◌, ◌++◌, length, get_or, take, drop, set, Some, None, sym, refl, ap, ◌∙◌, append_assoc, arith, Bor}
 use borrow.Rule.Slice.PartMut.{put_mid}
+use Rattle.std.specs.List.{list_any, list_all}
 use Rattle.octets.specs.Fronts.{at_front}
 use Rattle.std.proofs.lemmas.List.{append-nil, drop_more, drop_all, drop_at, drop-drop, drop-set-lt, length-append, length-drop, length-take, take-append-drop, take_at, take_more_set}
 use Rattle.std.proofs.lemmas.Slice.{drop-append-drop, first_rest}
-use Rattle.std.proofs.lemmas.Bool.{eq-eqb, ne_eqb, le-leb, lt-leb}
+use Rattle.std.proofs.lemmas.Bool.{le-leb, lt-leb}
 use Rattle.fields.specs.Cuts.{led, joined, unbroken, all_unbroken}
-use Rattle.fields.specs.declared.refusal.TextRefusal.TheVariants.{Form}
-use Rattle.fields.specs.Takes.{lists, writing, buffer_after}
+use Rattle.fields.specs.Takes.{lists}
 
--- One byte of a field after the other.
-module _ (t : List ℕ) (i : ℕ) (u : Bool) where
-  pub byte_more : i < length t → (get_or t i 0 ≡ 10 → ⊥) → unbroken (drop i t) ≡ u → unbroken (drop (i + 1) t) ≡ u
-  byte_more h ne inv = rw (drop_more t i 0 h, ne_eqb (get_or t i 0) 10 ne) at inv
+-- A field without byte 10, and fields without it.
+pub no_ten : (t : List ℕ) → not (list_any (λ b. eqb b 10) t) ≡ unbroken t
+no_ten [] = refl
+no_ten (b ∷ t) = by (eqb b 10) (no_ten t)
+  where
+    by : (q : Bool) → not (list_any (λ b. eqb b 10) t) ≡ unbroken t → not (q || list_any (λ b. eqb b 10) t) ≡ not q && unbroken t
+    by true e = refl
+    by false e = e
 
-  pub byte_stops : i < length t → get_or t i 0 ≡ 10 → unbroken (drop i t) ≡ u → false ≡ u
-  byte_stops h e inv = rw (drop_more t i 0 h, eq-eqb (get_or t i 0) 10 e) at inv
+pub each_unbroken : (fs : List (Bor (List ℕ))) → list_all (λ f. unbroken f.now) fs ≡ all_unbroken (lists fs)
+each_unbroken [] = refl
+each_unbroken (f ∷ fs) = ap (λ q. unbroken f.now && q) (each_unbroken fs)
 
-  pub bytes_done : length t ≤ i → unbroken (drop i t) ≡ u → true ≡ u
-  bytes_done h inv = rw (drop_all i t h) at inv
-
--- One field after the other.
 -- What the checker reads past a list of slices.
 abbrev pub none : Bor (List ℕ)
 none = record { ref_ptr = (0, 0); now = [] }
 
 module _ (fs : List (Bor (List ℕ))) (i : ℕ) where
-  pub field_more : (u : Bool) → i < length fs → unbroken (get_or fs i none).now ≡ true → all_unbroken (lists (drop i fs)) ≡ u → all_unbroken (lists (drop (i + 1) fs)) ≡ u
-  field_more u h e inv = rw (drop_more fs i none h, e) at inv
-
-  pub field_stops : (u : Bool) → i < length fs → unbroken (get_or fs i none).now ≡ false → all_unbroken (lists (drop i fs)) ≡ u → false ≡ u
-  field_stops u h e inv = rw (drop_more fs i none h, e) at inv
-
   -- How many bytes are left, with that field and after it.
   pub led_more : i < length fs → length (led (lists (drop i fs))) ≡ length (get_or fs i none).now + 1 + length (led (lists (drop (i + 1) fs)))
   led_more h =
       let d = drop_more fs i none h in
       let a = length-append (get_or fs i none).now (led (lists (drop (i + 1) fs))) in
       rw d (omega arith)
-
-pub fields_done : (fs : List (Bor (List ℕ))) (i : ℕ) (u : Bool) → length fs ≤ i → all_unbroken (lists (drop i fs)) ≡ u → true ≡ u
-fields_done fs i u h inv = rw (drop_all i fs h) at inv
 
 pub led_done : (fs : List (Bor (List ℕ))) (i : ℕ) → length fs ≤ i → length (led (lists (drop i fs))) ≡ 0
 led_done fs i h = rw (drop_all i fs h)
@@ -136,17 +128,6 @@ module _ (first : List ℕ) (rest : List (Bor (List ℕ))) where
       let s = drop-append-drop k old x at (omega arith) (ap length e ∙ sym ek) in
       let o : out ≡ joined (first ∷ lists rest) ++ drop at old = sym (take-append-drop at out) ∙ rw (t, l.same, s) in
       o ∙ ap (λ z. joined (first ∷ lists rest) ++ drop z old) n
-
--- A text without fields is empty.
-pub nothing_written : (fs : List (Bor (List ℕ))) (formed : Bool) (out : List ℕ) → length fs ≡ 0 → formed ≡ true
-    → (Ok 0 ≡ writing (lists fs) formed (length out)) × (out ≡ buffer_after (lists fs) formed out)
-nothing_written [] formed out z t = let l = le-leb 0 (length out) (omega arith) in (rw (t, l), rw (t, l))
-nothing_written (f ∷ fs) formed out z t = absurd (omega arith)
-
-pub nothing_formed : (fs : List (Bor (List ℕ))) (formed : Bool) (out : List ℕ) → length fs ≡ 0 → formed ≡ false
-    → (Err Form ≡ writing (lists fs) formed (length out)) × (out ≡ buffer_after (lists fs) formed out)
-nothing_formed [] formed out z t = let l = le-leb 0 (length out) (omega arith) in (rw (t, l), rw (t, l))
-nothing_formed (f ∷ fs) formed out z t = absurd (omega arith)
 
 -- A list by its first and its other elements, as the checker reads them.
 pub by_first : (fs : List (Bor (List ℕ))) → 0 < length fs → lists fs ≡ (get_or fs 0 none).now ∷ lists (take (length fs - 1) (drop 1 fs))
