@@ -57,7 +57,7 @@ fn file<'a>(fields: Fields<'a>) -> Result<Results<'a>, WrongField>
     ensures { shown told result ≡ file_told (ending fields.entry) (left fields.entry) }
 {
     let (size, rest) = fields.take(4)?;
-    let n = numerals::decimal32(size.bytes).ok_or(size.wrong(4))?;
+    let n = numerals::decimal(size.bytes).ok_or(size.wrong(4))?;
     let (digest, rest) = rest.take(5)?;
     numerals::digest(digest.bytes).ok_or(digest.wrong(5))?;
     rest.end(6)?;
