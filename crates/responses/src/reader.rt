@@ -1,11 +1,24 @@
 // A response read from its text.
 ghost use Rattle.std.specs.Prelude.{◌≡◌};
 ghost use Rattle.fields.specs.Takes.{piece, left, ending, shown};
-ghost use Rattle.responses.specs.Replies.{placed_meant, told, one_field, path_told, refusal_told, listing_told, file_told, granted_told, told_of, reply_of};
+ghost use Rattle.responses.specs.Replies.{placed_meant, saying, told, one_told, one_field, listing_told, file_told, granted_told, told_of, reply_of};
 
 use crate::response::{Outcome, PlacedResponse, Places, Response, Results};
 use fields::{Field, Fields, WrongField};
 use words::{Status, Tells, Word};
+
+impl<'a> Results<'a> {
+    // What one field says.
+    fn one(outcome: Outcome<'a>, field: Field<'a>) -> Results<'a>
+        ensures { told result ≡ one_told (saying outcome.entry) (piece field.entry) }
+    {
+        Results {
+            outcome,
+            first: Some(field.place()),
+            second: None,
+        }
+    }
+}
 
 // The only field that is left, which is number 4.
 fn one_field<'a>(fields: Fields<'a>) -> Result<Field<'a>, WrongField>
@@ -16,28 +29,6 @@ fn one_field<'a>(fields: Fields<'a>) -> Result<Field<'a>, WrongField>
     Ok(field)
 }
 
-fn path<'a>(fields: Fields<'a>) -> Result<Results<'a>, WrongField>
-    ensures { shown told result ≡ path_told (ending fields.entry) (left fields.entry) }
-{
-    let field = one_field(fields)?;
-    Ok(Results {
-        outcome: Outcome::Path(field.bytes),
-        first: Some(field.place()),
-        second: None,
-    })
-}
-
-fn refusal<'a>(fields: Fields<'a>) -> Result<Results<'a>, WrongField>
-    ensures { shown told result ≡ refusal_told (ending fields.entry) (left fields.entry) }
-{
-    let field = one_field(fields)?;
-    Ok(Results {
-        outcome: Outcome::Refused(field.bytes),
-        first: Some(field.place()),
-        second: None,
-    })
-}
-
 fn listing<'a>(fields: Fields<'a>) -> Result<Results<'a>, WrongField>
     ensures { shown told result ≡ listing_told (ending fields.entry) (left fields.entry) }
 {
@@ -46,11 +37,7 @@ fn listing<'a>(fields: Fields<'a>) -> Result<Results<'a>, WrongField>
         return Err(field.wrong(4));
     }
     rest.end(5)?;
-    Ok(Results {
-        outcome: Outcome::Listing(field.bytes),
-        first: Some(field.place()),
-        second: None,
-    })
+    Ok(Results::one(Outcome::Listing(field.bytes), field))
 }
 
 fn file<'a>(fields: Fields<'a>) -> Result<Results<'a>, WrongField>
@@ -83,7 +70,10 @@ fn granted<'a>(tells: Tells, fields: Fields<'a>) -> Result<Results<'a>, WrongFie
                 second: None,
             })
         }
-        Tells::Path => path(fields),
+        Tells::Path => {
+            let field = one_field(fields)?;
+            Ok(Results::one(Outcome::Path(field.bytes), field))
+        }
         Tells::Listing => listing(fields),
         Tells::File => file(fields),
     }
@@ -95,7 +85,8 @@ fn results<'a>(word: Word, grants: bool, fields: Fields<'a>) -> Result<Results<'
     if grants {
         granted(Tells::of(word), fields)
     } else {
-        refusal(fields)
+        let field = one_field(fields)?;
+        Ok(Results::one(Outcome::Refused(field.bytes), field))
     }
 }
 
