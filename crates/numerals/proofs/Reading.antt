@@ -61,6 +61,7 @@ shows : {N : Type 0} (f : ℕ → N) (b : Bool) (x : ℕ) (o : Option ℕ) → o
 shows f true x o e = ap (option_map f) e
 shows f false x o e = ap (option_map f) e
 
-pub in_type : {N : Type 0} (f : ℕ → N) (k m : ℕ) (t : List ℕ) (o : Option ℕ) → m ≡ k → o ≡ decimal_of m t → option_map f o ≡ decimal_as f k t
+pub in_type : {N : Type 0} (f : ℕ → N) (k m : ℕ) (t : List ℕ) (o : Option ℕ) → m ≡ k → o ≡ decimal_of (m + 1) t → option_map f o ≡ decimal_as f (k + 1) t
 unfolding decimal_as
-in_type f k m t o q e = shows f (plain t && (only_digits t && ltb (number_after 0 t) m)) (number_after 0 t) o e ∙ ap (λ j. decimal_as f j t) q
+in_type f k m t o q e =
+    shows f (plain t && (only_digits t && ltb (number_after 0 t) (m + 1))) (number_after 0 t) o e ∙ ap (λ j. decimal_as f (j + 1) t) q

@@ -1,7 +1,7 @@
 // Numbers and digests as text: hexadecimal digests read, decimals read and written.
 #![tactic(auto)]
 
-ghost use Rattle.std.specs.Prelude.{◌≡◌, ◌<◌, ◌≤◌, length, take, IfSome, decimal};
+ghost use Rattle.std.specs.Prelude.{◌≡◌, ◌+◌, ◌<◌, ◌≤◌, length, take, IfSome, decimal};
 ghost use Rattle.numerals.specs.Decimals.{decimal_as};
 ghost use Rattle.numerals.specs.Digests.{digit_of, digest_of};
 ghost use Rattle.octets.specs.Fronts.{at_front};
@@ -40,9 +40,9 @@ pub fn digest(text: &[u8]) -> Option<[u8; 32]>
 
 // The decimal that a text is, without a leading zero, where the type has it: at a type of numbers below k, `decimal_of k` of the text.
 pub fn decimal<N: Unsigned>(text: &[u8]) -> Option<N>
-    ensures { result ≡ decimal_as N.of N.count text.now }
+    ensures { result ≡ decimal_as N.of (N.LARGEST + 1) text.now }
 {
-    Some(N::of(read_up_to(text, N::largest())?))
+    Some(N::of(read_up_to(text, N::LARGEST)?))
 }
 
 // Writes a number at the front of `out`, whose rest stays, and answers how many digits it has.
