@@ -1,5 +1,5 @@
 -- A text cut byte by byte.
-use Rattle.std.proofs.Common.{suc, ◌≡◌, ℕ, ◌+◌, ◌<◌, ◌≤◌, Bool, true, false, cond, not, eqb, ltb, List, [], ◌∷◌, ◌++◌, length, take, drop, Some, None, Option, sym, refl, ap, ◌∙◌, append_assoc, arith}
+use Rattle.std.proofs.Common.{suc, ◌≡◌, ℕ, ◌+◌, ◌<◌, ◌≤◌, Bool, true, false, cond, not, eqb, ltb, List, [], ◌∷◌, ◌++◌, length, take, drop, Some, None, Option, sym, refl, ap, ◌∙◌, arith}
 use Rattle.std.proofs.lemmas.List.{drop_more, drop_all, drop-drop, length-take, take_all}
 use Rattle.std.proofs.lemmas.Bool.{ltb-true, ltb-false}
 use Rattle.std.specs.List.{position, position_or_len}
@@ -10,10 +10,6 @@ use Rattle.fields.specs.Takes.{from, starts}
 abbrev pub glue : List ℕ → List (List ℕ) → List (List ℕ)
 glue p [] = p ∷ []
 glue p (f ∷ fs) = (p ++ f) ∷ fs
-
-glue-onto : (p : List ℕ) (b : ℕ) (fs : List (List ℕ)) → glue p (onto b fs) ≡ glue (p ++ (b ∷ [])) fs
-glue-onto p b [] = refl
-glue-onto p b (f ∷ fs) = rw append_assoc
 
 pub glue-none : (t : List ℕ) → glue [] (cut t) ≡ cut t
 glue-none [] = refl
