@@ -5,6 +5,7 @@ use Rattle.std.proofs.lemmas.Bool.{ltb-true, ltb-false}
 use Rattle.std.specs.List.{position, position_or_len}
 use Rattle.fields.specs.Cuts.{cut, onto, placed}
 use Rattle.fields.specs.Takes.{from, starts}
+use Rattle.fields.proofs.Ends.{none_not_some}
 
 -- Bytes before the first of some fields.
 abbrev pub glue : List ℕ → List (List ℕ) → List (List ℕ)
@@ -45,10 +46,10 @@ first-cut (b ∷ bs) = by (eqb b 10) (first-cut bs)
 
 some_if : (q : Bool) (m n : ℕ) → Some n ≡ cond q (Some m) None → (q ≡ true) × (n ≡ m)
 some_if true m n e = (refl, cc)
-some_if false m n e = let z : ◌≡◌ {A = ℕ} 0 1 = cc in absurd (omega arith)
+some_if false m n e = absurd (none_not_some n (sym e))
 
 none_if : (q : Bool) (m : ℕ) → None ≡ cond q (Some m) None → q ≡ false
-none_if true m e = let z : ◌≡◌ {A = ℕ} 0 1 = cc in absurd (omega arith)
+none_if true m e = absurd (none_not_some m e)
 none_if false m e = refl
 
 -- The field at a place and those behind it: where a byte 10 ends it, and where none is left.

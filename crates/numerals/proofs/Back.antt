@@ -16,9 +16,13 @@ pub own : IsNumeralModel (λ t. only_digits t ≡ true) (number_after 0)
 unfolding only_digits number_after
 own = numerals_by_fold _ (search rules) number_after (search rules)
 
+-- Nothing is not something.
+none_not_some : {A : Type 0} {x : A} → ◌≡◌ {A = Option A} None (Some x) → ⊥
+none_not_some h = let z : ◌≡◌ {A = ℕ} 0 1 = cc in omega arith
+
 some_only : (b : Bool) (x n : ℕ) → cond b (Some x) None ≡ Some n → (b ≡ true) × (x ≡ n)
 some_only true x n e = (refl, cc)
-some_only false x n e = let z : ◌≡◌ {A = ℕ} 0 1 = cc in absurd (omega arith)
+some_only false x n e = absurd (none_not_some e)
 
 -- What a text that is read as n is.
 pub record Reads (k n : ℕ) (t : List ℕ) : Type 0 where
@@ -107,8 +111,8 @@ byte_only : (a b x : ℕ) → byte_of (digit_of a) (digit_of b) ≡ Some x → (
 byte_only a b x e = go (digit_of a) (digit_of b) refl refl e
   where
     go : (o p : Option ℕ) → digit_of a ≡ o → digit_of b ≡ p → byte_of o p ≡ Some x → (a ≡ digit (x / 16)) × (b ≡ digit (x % 16))
-    go None p f g i = let z : ◌≡◌ {A = ℕ} 0 1 = cc in absurd (omega arith)
-    go (Some h) None f g i = let z : ◌≡◌ {A = ℕ} 0 1 = cc in absurd (omega arith)
+    go None p f g i = absurd (none_not_some i)
+    go (Some h) None f g i = absurd (none_not_some i)
     go (Some h) (Some l) f g i =
         let q : h * 16 + l ≡ x = cc in
         let u = digit_only a h f in
@@ -117,14 +121,14 @@ byte_only a b x e = go (digit_of a) (digit_of b) refl refl e
 
 joined_only : (o : Option ℕ) (p : Option (List ℕ)) (bs : List ℕ) → joined o p ≡ Some bs
     → (x : ℕ) × ((xs : List ℕ) × ((o ≡ Some x) × (p ≡ Some xs) × (x ∷ xs ≡ bs)))
-joined_only None p bs e = let z : ◌≡◌ {A = ℕ} 0 1 = cc in absurd (omega arith)
-joined_only (Some x) None bs e = let z : ◌≡◌ {A = ℕ} 0 1 = cc in absurd (omega arith)
+joined_only None p bs e = absurd (none_not_some e)
+joined_only (Some x) None bs e = absurd (none_not_some e)
 joined_only (Some x) (Some xs) bs e = (x, (xs, (refl, refl, cc)))
 
 bytes_only : (t bs : List ℕ) → bytes_of t ≡ Some bs → t ≡ hexadecimal bs
 unfolding bytes_of hexadecimal
 bytes_only [] bs e = let q : [] ≡ bs = cc in ap hexadecimal q
-bytes_only (a ∷ []) bs e = let z : ◌≡◌ {A = ℕ} 0 1 = cc in absurd (omega arith)
+bytes_only (a ∷ []) bs e = absurd (none_not_some e)
 bytes_only (a ∷ b ∷ t) bs e =
     let j = joined_only (byte_of (digit_of a) (digit_of b)) (bytes_of t) bs e in
     let x : ℕ = j.0 in
@@ -135,9 +139,9 @@ bytes_only (a ∷ b ∷ t) bs e =
     let v : b ≡ digit (x % 16) = p.1 in
     (λ i. u i ∷ v i ∷ q i) ∙ ap hexadecimal j.1.1.2
 
-sized_only : (b : Bool) (o : Option (List ℕ)) (bs : List ℕ) → cond b o None ≡ Some bs → (b ≡ true) × (o ≡ Some bs)
+pub sized_only : (b : Bool) (o : Option (List ℕ)) (bs : List ℕ) → cond b o None ≡ Some bs → (b ≡ true) × (o ≡ Some bs)
 sized_only true o bs e = (refl, e)
-sized_only false o bs e = let z : ◌≡◌ {A = ℕ} 0 1 = cc in absurd (omega arith)
+sized_only false o bs e = absurd (none_not_some e)
 
 digest_only : (t bs : List ℕ) → digest_of t ≡ Some bs → (t ≡ hexadecimal bs) × (length bs ≡ 32)
 unfolding digest_of
