@@ -1,5 +1,5 @@
 // A command, whose parameters are parts of the text that it was read from.
-#[derive(Clone, Copy)]
+#[derive(Clone, Copy, PartialEq, Eq, Debug)]
 pub enum Command<'a> {
     Pwd,
     Lst,

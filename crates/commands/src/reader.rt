@@ -22,7 +22,7 @@ fn upload_of<'a>(fields: Fields<'a>) -> Result<Command<'a>, WrongField>
 {
     let (name, rest) = fields.take(2)?;
     let (size, rest) = rest.take(3)?;
-    let n = numerals::decimal32(size.bytes).ok_or(size.wrong(3))?;
+    let n = numerals::decimal(size.bytes).ok_or(size.wrong(3))?;
     let (digest, rest) = rest.take(4)?;
     numerals::digest(digest.bytes).ok_or(digest.wrong(4))?;
     rest.end(5)?;

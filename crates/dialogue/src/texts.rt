@@ -5,6 +5,7 @@ use crate::shown::Shown;
 use crate::text_failure::TextFailure;
 use commands::Command;
 use digest::sha256;
+use fields::WriteText;
 use octets::{equal, hexadecimal};
 use payloads::{LogIn, LogInResponse, UploadResponse};
 use responses::{Outcome, Response};

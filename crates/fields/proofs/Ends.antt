@@ -7,6 +7,9 @@ use Rattle.fields.specs.Takes.{shown, and_then}
 pub err_not_ok : {X E : Type 0} (e : E) (x : X) → ◌≡◌ {A = Result X E} (Err e) (Ok x) → ⊥
 err_not_ok e x h = let z : ◌≡◌ {A = ℕ} 0 1 = cc in omega arith
 
+pub none_not_some : {X : Type 0} (x : X) → ◌≡◌ {A = Option X} None (Some x) → ⊥
+none_not_some x h = let z : ◌≡◌ {A = ℕ} 0 1 = cc in omega arith
+
 -- Two answers that are equal.
 pub same_ok : {X E : Type 0} (x y : X) → ◌≡◌ {A = Result X E} (Ok x) (Ok y) → x ≡ y
 same_ok x y h = cc

@@ -1,68 +1,36 @@
 -- A text laid out from its fields.
-use Rattle.std.proofs.Common.{◌≡◌, ℕ, ◌+◌, ◌-◌, ◌<◌, ◌≤◌, Bool, true, false, cond, leb, List, [], ◌∷◌, ◌++◌, length, get_or, take, drop, set, Some, None, Ok, Err, sym, refl, ap, ◌∙◌, append_assoc, arith, Bor}
-use borrow.Rule.Slice.PartMut.{put_mid}
+use Rattle.std.proofs.Common.{◌≡◌, ℕ, ◌+◌, ◌-◌, ◌<◌, ◌≤◌, Bool, true, false, not, ◌&&◌, ◌||◌, eqb, List, [], ◌∷◌, ◌++◌, length, get_or, take, drop, sym, refl, ap, ◌∙◌, append_assoc, arith, Bor}
+use Rattle.std.specs.List.{list_any, list_all}
 use Rattle.octets.specs.Fronts.{at_front}
-use Rattle.std.proofs.lemmas.List.{append-nil, drop_more, drop_all, drop_at, drop-drop, drop-set-lt, length-append, length-drop, length-take, take-append-drop, take_at, take_more_set}
+use Rattle.std.proofs.lemmas.List.{append-nil, drop_more, drop_all, drop_at, drop-drop, length-append, length-drop, length-take, take-append-drop, take_at}
 use Rattle.std.proofs.lemmas.Slice.{drop-append-drop, first_rest}
-use Rattle.std.proofs.lemmas.Bool.{eq-eqb, ne_eqb, le-leb, lt-leb}
 use Rattle.fields.specs.Cuts.{led, joined, unbroken, all_unbroken}
-use Rattle.fields.specs.declared.refusal.TextRefusal.TheVariants.{Form}
-use Rattle.fields.specs.Takes.{lists, writing, buffer_after}
+use Rattle.fields.specs.Takes.{lists}
 
--- One byte of a field after the other.
-module _ (t : List ℕ) (i : ℕ) (u : Bool) where
-  pub byte_more : i < length t → (get_or t i 0 ≡ 10 → ⊥) → unbroken (drop i t) ≡ u → unbroken (drop (i + 1) t) ≡ u
-  byte_more h ne inv = rw (drop_more t i 0 h, ne_eqb (get_or t i 0) 10 ne) at inv
+-- A field without byte 10, and fields without it.
+pub no_ten : (t : List ℕ) → not (list_any (λ b. eqb b 10) t) ≡ unbroken t
+no_ten [] = refl
+no_ten (b ∷ t) = by (eqb b 10) (no_ten t)
+  where
+    by : (q : Bool) → not (list_any (λ b. eqb b 10) t) ≡ unbroken t → not (q || list_any (λ b. eqb b 10) t) ≡ not q && unbroken t
+    by true e = refl
+    by false e = e
 
-  pub byte_stops : i < length t → get_or t i 0 ≡ 10 → unbroken (drop i t) ≡ u → false ≡ u
-  byte_stops h e inv = rw (drop_more t i 0 h, eq-eqb (get_or t i 0) 10 e) at inv
+pub each_unbroken : (fs : List (Bor (List ℕ))) → list_all (λ f. unbroken f.now) fs ≡ all_unbroken (lists fs)
+each_unbroken [] = refl
+each_unbroken (f ∷ fs) = ap (λ q. unbroken f.now && q) (each_unbroken fs)
 
-  pub bytes_done : length t ≤ i → unbroken (drop i t) ≡ u → true ≡ u
-  bytes_done h inv = rw (drop_all i t h) at inv
-
--- One field after the other.
 -- What the checker reads past a list of slices.
 abbrev pub none : Bor (List ℕ)
 none = record { ref_ptr = (0, 0); now = [] }
 
 module _ (fs : List (Bor (List ℕ))) (i : ℕ) where
-  pub field_more : (u : Bool) → i < length fs → unbroken (get_or fs i none).now ≡ true → all_unbroken (lists (drop i fs)) ≡ u → all_unbroken (lists (drop (i + 1) fs)) ≡ u
-  field_more u h e inv = rw (drop_more fs i none h, e) at inv
-
-  pub field_stops : (u : Bool) → i < length fs → unbroken (get_or fs i none).now ≡ false → all_unbroken (lists (drop i fs)) ≡ u → false ≡ u
-  field_stops u h e inv = rw (drop_more fs i none h, e) at inv
-
   -- How many bytes are left, with that field and after it.
   pub led_more : i < length fs → length (led (lists (drop i fs))) ≡ length (get_or fs i none).now + 1 + length (led (lists (drop (i + 1) fs)))
   led_more h =
       let d = drop_more fs i none h in
       let a = length-append (get_or fs i none).now (led (lists (drop (i + 1) fs))) in
       rw d (omega arith)
-
-pub fields_done : (fs : List (Bor (List ℕ))) (i : ℕ) (u : Bool) → length fs ≤ i → all_unbroken (lists (drop i fs)) ≡ u → true ≡ u
-fields_done fs i u h inv = rw (drop_all i fs h) at inv
-
-pub led_done : (fs : List (Bor (List ℕ))) (i : ℕ) → length fs ≤ i → length (led (lists (drop i fs))) ≡ 0
-led_done fs i h = rw (drop_all i fs h)
-
--- A length that is not over the most there may be.
-module _ (n most : ℕ) where
-  pub counted_none : most < n → None ≡ cond (leb n most) (Some n) None
-  counted_none h = rw (lt-leb n most h)
-
-  pub counted : (k : ℕ) → k ≡ n → n ≤ most → Some k ≡ cond (leb n most) (Some n) None
-  counted k e h = rw (le-leb n most h, e)
-
--- Byte 10 at a place, and a field x behind it.
-pub led_in : (out x f : List ℕ) (at : ℕ) → x ≡ f → at < length out
-    → put_mid (at + 1) (at + 1 + length f - (at + 1)) (set out at 10) x ≡ take at out ++ (10 ∷ (f ++ drop (at + 1 + length f) out))
-led_in out x f at e h =
-    let k : at + 1 + length f - (at + 1) ≡ length f = omega arith in
-    let t = take_more_set out at 10 h in
-    let l : at < at + 1 = omega arith in
-    let d = drop-set-lt (at + 1) out at 10 l in
-    let g = drop-drop (length f) (at + 1) out in
-    rw (k, t, d, g, e, append_assoc)
 
 -- The text so far, and the rest of the output as it was.
 pub record Laid (first : List ℕ) (rest : List (Bor (List ℕ))) (i at : ℕ) (out old : List ℕ) : Type 0 where
@@ -72,11 +40,6 @@ pub record Laid (first : List ℕ) (rest : List (Bor (List ℕ))) (i at : ℕ) (
   pub same : drop at out ≡ drop at old
 
 module _ (first : List ℕ) (rest : List (Bor (List ℕ))) where
-  pub laid_none : (x post : List ℕ) → x ≡ first → Laid first rest 0 (length first) (x ++ post) (x ++ post)
-  laid_none x post e =
-      let t = take_at x post (length first) (ap length e) in
-      record { begun = omega arith; room = rw (length-append x post, e) (omega arith); text = rw (t, e); same = refl }
-
   -- There is room for the next field.
   pub laid_room : (i at : ℕ) (out old : List ℕ) → i < length rest → Laid first rest i at out old → length (joined (first ∷ lists rest)) ≤ length out
       → at + 1 + length (get_or rest i none).now ≤ length out
@@ -92,9 +55,6 @@ module _ (first : List ℕ) (rest : List (Bor (List ℕ))) where
       → out' ≡ take at out ++ (10 ∷ ((get_or rest i none).now ++ drop (at + 1 + length (get_or rest i none).now) out))
       → Laid first rest (i + 1) at' out' old
   laid_more i at at' out out' old h l r ea eo =
-      let f = (get_or rest i none).now in
-      let p : List ℕ = take at out ++ (10 ∷ (get_or rest i none).now) in
-      let q : List ℕ = drop (at + 1 + length (get_or rest i none).now) out in
       let k : length (take at out) ≡ at = simp length-take (omega arith) in
       let lp : length (take at out ++ (10 ∷ (get_or rest i none).now)) ≡ at + 1 + length (get_or rest i none).now = length-append (take at out) (10 ∷ (get_or rest i none).now) ∙ omega arith in
       let e : out' ≡ (take at out ++ (10 ∷ (get_or rest i none).now)) ++ drop (at + 1 + length (get_or rest i none).now) out = eo ∙ sym (append_assoc (take at out) (10 ∷ (get_or rest i none).now) (drop (at + 1 + length (get_or rest i none).now) out)) in
@@ -137,21 +97,6 @@ module _ (first : List ℕ) (rest : List (Bor (List ℕ))) where
       let o : out ≡ joined (first ∷ lists rest) ++ drop at old = sym (take-append-drop at out) ∙ rw (t, l.same, s) in
       o ∙ ap (λ z. joined (first ∷ lists rest) ++ drop z old) n
 
--- A text without fields is empty.
-pub nothing_written : (fs : List (Bor (List ℕ))) (formed : Bool) (out : List ℕ) → length fs ≡ 0 → formed ≡ true
-    → (Ok 0 ≡ writing (lists fs) formed (length out)) × (out ≡ buffer_after (lists fs) formed out)
-nothing_written [] formed out z t = let l = le-leb 0 (length out) (omega arith) in (rw (t, l), rw (t, l))
-nothing_written (f ∷ fs) formed out z t = absurd (omega arith)
-
-pub nothing_formed : (fs : List (Bor (List ℕ))) (formed : Bool) (out : List ℕ) → length fs ≡ 0 → formed ≡ false
-    → (Err Form ≡ writing (lists fs) formed (length out)) × (out ≡ buffer_after (lists fs) formed out)
-nothing_formed [] formed out z t = let l = le-leb 0 (length out) (omega arith) in (rw (t, l), rw (t, l))
-nothing_formed (f ∷ fs) formed out z t = absurd (omega arith)
-
 -- A list by its first and its other elements, as the checker reads them.
 pub by_first : (fs : List (Bor (List ℕ))) → 0 < length fs → lists fs ≡ (get_or fs 0 none).now ∷ lists (take (length fs - 1) (drop 1 fs))
 by_first fs h = ap lists (first_rest fs none h)
-
--- What was written of a part and a test, in other words for both.
-pub as_told : {X : Type 0} (F : List ℕ → Bool → X) (s t : List ℕ) (a b : Bool) (r : X) → s ≡ t → a ≡ b → r ≡ F s a → r ≡ F t b
-as_told F s t a b r e f h = h ∙ ap (λ z. F z a) e ∙ ap (λ z. F t z) f

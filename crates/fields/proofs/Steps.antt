@@ -1,20 +1,17 @@
 -- A text cut byte by byte.
-use Rattle.std.proofs.Common.{◌≡◌, ℕ, ◌+◌, ◌-◌, ◌<◌, ◌≤◌, Bool, true, false, cond, eqb, List, [], ◌∷◌, ◌++◌, length, get_or, take, drop, Some, None, Option, sym, refl, ◌∙◌, append_assoc, arith}
-use Rattle.std.proofs.lemmas.List.{append-nil, drop_more, drop_all, take_more, get_or-drop, length-drop, length-take}
-use Rattle.std.proofs.lemmas.Bool.{eq-eqb, ne_eqb}
-use Rattle.fields.specs.Cuts.{Piece, cut, onto, placed}
+use Rattle.std.proofs.Common.{suc, ◌≡◌, ℕ, ◌+◌, ◌<◌, ◌≤◌, Bool, true, false, cond, not, eqb, ltb, List, [], ◌∷◌, ◌++◌, length, take, drop, Some, None, Option, sym, refl, ap, ◌∙◌, arith}
+use Rattle.std.proofs.lemmas.List.{drop_more, drop_all, drop-drop, length-take, take_all}
+use Rattle.std.proofs.lemmas.Bool.{ltb-true, ltb-false}
+use Rattle.std.specs.List.{position, position_or_len}
+use Rattle.fields.specs.Cuts.{cut, onto, placed}
 use Rattle.fields.specs.Takes.{from, starts}
+use Rattle.fields.proofs.Ends.{none_not_some}
 
 -- Bytes before the first of some fields.
 abbrev pub glue : List ℕ → List (List ℕ) → List (List ℕ)
 glue p [] = p ∷ []
 glue p (f ∷ fs) = (p ++ f) ∷ fs
 
-glue-onto : (p : List ℕ) (b : ℕ) (fs : List (List ℕ)) → glue p (onto b fs) ≡ glue (p ++ (b ∷ [])) fs
-glue-onto p b [] = refl
-glue-onto p b (f ∷ fs) = rw append_assoc
-
--- A text has a first field.
 pub glue-none : (t : List ℕ) → glue [] (cut t) ≡ cut t
 glue-none [] = refl
 glue-none (b ∷ bs) = by (eqb b 10)
@@ -27,50 +24,54 @@ glue-none (b ∷ bs) = by (eqb b 10)
         on [] = refl
         on (f ∷ fs) = refl
 
--- A text from a place on: the bytes up to a later place belong to its first field.
-abbrev pub Begun : List ℕ → ℕ → ℕ → Type 0
-Begun t at end = cut (drop at t) ≡ glue (take (end - at) (drop at t)) (cut (drop end t))
+-- The fields behind the first one, where its end is.
+abbrev others : List ℕ → List (List ℕ)
+others [] = []
+others (b ∷ bs) = cut bs
 
-pub begun-none : (t : List ℕ) (at : ℕ) → Begun t at at
-begun-none t at = let z : at - at ≡ 0 = omega arith in rw z (sym (glue-none (drop at t)))
+-- How long a text's first field is, and what it is.
+abbrev size : List ℕ → ℕ
+size t = position_or_len (λ b. eqb b 10) t
 
-module _ (t : List ℕ) (at end : ℕ) where
-  -- One byte more that is not the separator.
-  pub cut_more : at ≤ end → end < length t → (get_or t end 0 ≡ 10 → ⊥) → Begun t at end → Begun t at (end + 1)
-  cut_more a h ne inv =
-      let e = ne_eqb (get_or t end 0) 10 ne in
-      let d = drop_more t end 0 h in
-      let k : end - at < length (drop at t) = simp length-drop (omega arith) in
-      let m = take_more (drop at t) (end - at) 0 k in
-      let n : end - at + 1 ≡ end + 1 - at = omega arith in
-      let i : at + (end - at) ≡ end = omega arith in
-      let g = get_or-drop at t (end - at) 0 in
-      let step : cut (drop at t) ≡ glue (take (end - at) (drop at t)) (onto (get_or t end 0) (cut (drop (end + 1) t))) = rw (d, e) at inv in
-      step ∙ glue-onto (take (end - at) (drop at t)) (get_or t end 0) (cut (drop (end + 1) t)) ∙ rw (← n, m, g, i)
+first-cut : (t : List ℕ) → cut t ≡ take (size t) t ∷ others (drop (size t) t)
+first-cut [] = refl
+first-cut (b ∷ bs) = by (eqb b 10) (first-cut bs)
+  where
+    by : (q : Bool) → cut bs ≡ take (size bs) bs ∷ others (drop (size bs) bs)
+        → cond q ([] ∷ cut bs) (onto b (cut bs)) ≡ take (cond (not q) (1 + size bs) 0) (b ∷ bs) ∷ others (drop (cond (not q) (1 + size bs) 0) (b ∷ bs))
+    by true e = refl
+    by false e =
+        let n : suc (size bs) ≡ 1 + size bs = omega arith in
+        rw e (ap (λ m. take m (b ∷ bs) ∷ others (drop m (b ∷ bs))) n)
 
-  size : at ≤ end → end ≤ length t → at + length (take (end - at) (drop at t)) ≡ end
-  size a h = simp (length-take, length-drop) (omega arith)
+some_if : (q : Bool) (m n : ℕ) → Some n ≡ cond q (Some m) None → (q ≡ true) × (n ≡ m)
+some_if true m n e = (refl, cc)
+some_if false m n e = absurd (none_not_some n (sym e))
 
-  -- At the text's end.
-  pub cut_last : at ≤ end → end ≤ length t → length t ≤ end → Begun t at end
-      → placed at (cut (drop at t)) ≡ record { start = at; end = end; bytes = take (end - at) (drop at t) } ∷ []
-  cut_last a h l inv = let c = rw (drop_all end t l, append-nil) at inv in let s = size a h in rw (c, s)
+none_if : (q : Bool) (m : ℕ) → None ≡ cond q (Some m) None → q ≡ false
+none_if true m e = absurd (none_not_some m e)
+none_if false m e = refl
 
-  -- At a separator.
-  pub cut_here : at ≤ end → end < length t → get_or t end 0 ≡ 10 → Begun t at end
-      → placed at (cut (drop at t)) ≡ record { start = at; end = end; bytes = take (end - at) (drop at t) } ∷ placed (end + 1) (cut (drop (end + 1) t))
-  cut_here a h e inv =
-      let q = eq-eqb (get_or t end 0) 10 e in
-      let c = rw (drop_more t end 0 h, q, append-nil) at inv in
-      let s : at + length (take (end - at) (drop at t)) ≡ end = simp (length-take, length-drop) (omega arith) in
-      rw (c, s)
+-- The field at a place and those behind it: where a byte 10 ends it, and where none is left.
+module _ (text rest : List ℕ) (at : ℕ) where
+  pub cut_some : (n : ℕ) → rest ≡ drop at text → Some n ≡ position (λ b. eqb b 10) rest
+      → placed at (cut (drop at text)) ≡ record { start = at; end = at + length (take n rest); bytes = take n rest } ∷ from text (Some (at + n + 1))
+  cut_some n r p =
+      let s = some_if (ltb (size rest) (length rest)) (size rest) n p in
+      let h : n < length rest = omega (arith, ltb-true (size rest) (length rest) s.0, s.1) in
+      let c : cut rest ≡ take n rest ∷ cut (drop (n + 1) rest) =
+      first-cut rest ∙ ap (λ m. take m rest ∷ others (drop m rest)) (sym s.1) ∙ ap (λ u. take n rest ∷ others u) (drop_more rest n 0 h) in
+      let d : drop (n + 1) rest ≡ drop (at + (n + 1)) text = ap (drop (n + 1)) r ∙ drop-drop (n + 1) at text in
+      let l : length (take n rest) ≡ n = simp length-take (omega arith) in
+      let i : at + (n + 1) ≡ at + n + 1 = omega arith in
+      ap (λ u. placed at (cut u)) (sym r) ∙ ap (placed at) c ∙ rw (l, d, i)
 
--- Past the text's end there is one empty field.
-pub cut_past : (t : List ℕ) (at : ℕ) → length t < at → placed at (cut (drop at t)) ≡ record { start = at; end = at; bytes = [] } ∷ []
-cut_past t at h = let d = drop_all at t (omega arith) in let z : at + 0 ≡ at = omega arith in rw (d, z)
-
-pub first_and_rest : (ps rest left : List Piece) (p q : Piece) → ps ≡ p ∷ rest → q ≡ p → left ≡ rest → ps ≡ q ∷ left
-first_and_rest ps rest left p q e f g = cc
+  pub cut_none : rest ≡ drop at text → None ≡ position (λ b. eqb b 10) rest
+      → placed at (cut (drop at text)) ≡ record { start = at; end = at + length rest; bytes = rest } ∷ []
+  cut_none r p =
+      let h : length rest ≤ size rest = ltb-false (size rest) (length rest) (none_if (ltb (size rest) (length rest)) (size rest) p) in
+      let c : cut rest ≡ rest ∷ [] = first-cut rest ∙ rw (take_all (size rest) rest h, drop_all (size rest) rest h) in
+      ap (λ u. placed at (cut u)) (sym r) ∙ ap (placed at) c
 
 -- From any place on, a text has a field that starts there.
 pub starts_there : (t : List ℕ) (o : Option ℕ) → o ≡ starts (from t o)

@@ -13,7 +13,7 @@ use Rattle.fields.specs.Cuts.{Piece, cut, placed, joined, all_unbroken}
 
 -- What a Field stands for.
 abbrev pub piece : Field → Piece
-piece f = record { start = f.start; end = f.end; bytes = f.bytes.now }
+piece f = record { start = f.place.start; end = f.place.end; bytes = f.bytes.now }
 
 -- Where it stands.
 abbrev pub place : Piece → Place

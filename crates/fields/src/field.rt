@@ -7,16 +7,15 @@ pub struct Place {
     pub end: usize,
 }
 
-// A field: where it starts and ends in its text, and its bytes.
-#[derive(Clone, Copy)]
+// A field: where it stands in its text, and its bytes.
+#[derive(Clone, Copy, PartialEq, Eq, Debug)]
 pub struct Field<'a> {
-    pub start: usize,
-    pub end: usize,
+    pub(crate) place: Place,
     pub bytes: &'a [u8],
 }
 
 // The fields of a text from a place on; none is left where there is no place.
-#[derive(Clone, Copy)]
+#[derive(Clone, Copy, PartialEq, Eq, Debug)]
 pub struct Fields<'a> {
     pub(crate) text: &'a [u8],
     pub(crate) next: Option<usize>,

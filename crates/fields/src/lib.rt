@@ -10,4 +10,4 @@ mod writer;
 pub use field::{Field, Fields, Place};
 pub use laws::{cut_and_joined, fields_stand};
 pub use refusal::{TextRefusal, WrongField};
-pub use writer::write_fields;
+pub use writer::{WriteText, write_fields};

@@ -1,5 +1,5 @@
 // Fields taken one by one.
-ghost use Rattle.std.specs.Prelude.{◌≡◌, ◌∷◌, length, drop, IfOk};
+ghost use Rattle.std.specs.Prelude.{◌≡◌, ◌==◌, ◌+◌, ◌^◌, ◌<◌, ◌∷◌, length, drop, position, IfOk};
 ghost use Rattle.fields.specs.Cuts.{cut, placed, fields};
 ghost use Rattle.fields.specs.Takes.{piece, place, from, left, ending, wrong, cut_off, shown, starts, taken, taken_closed, ended, ended_closed};
 
@@ -11,20 +11,14 @@ impl Field<'_> {
     pub fn place(&self) -> Place
         ensures { result ≡ place (piece self.now) }
     {
-        Place {
-            start: self.start,
-            end: self.end,
-        }
+        self.place
     }
 
     // This field is wrong, which is number `number`.
     pub fn wrong(&self, number: u8) -> WrongField
         ensures { result ≡ wrong number (piece self.now).start }
     {
-        WrongField {
-            field: number,
-            place: self.start,
-        }
+        WrongField::at(number, self.place.start)
     }
 }
 
@@ -47,10 +41,7 @@ impl<'a> Fields<'a> {
     {
         match self.next {
             Some(at) => Ok(field_at(self.text, at)),
-            None => Err(WrongField {
-                field: number,
-                place: self.text.len(),
-            }),
+            None => Err(WrongField::at(number, self.text.len())),
         }
     }
 
@@ -59,10 +50,7 @@ impl<'a> Fields<'a> {
         ensures { result ≡ ended number (left self.entry) }
     {
         match self.first() {
-            Some(place) => Err(WrongField {
-                field: number,
-                place,
-            }),
+            Some(place) => Err(WrongField::at(number, place)),
             None => Ok(()),
         }
     }
@@ -100,35 +88,45 @@ impl Fields<'_> {
     }
 }
 
+// Where the next byte 10 is.
+fn separator(text: &[u8]) -> Option<usize>
+    ensures { result ≡ position (λ b. b == 10) text.now }
+{
+    text.iter().position(|b| *b == 10)
+}
+
+// What a text has from a place on; nothing past its end.
+fn rest(text: &[u8], at: usize) -> &[u8]
+    ensures { result.now ≡ drop at text.now }
+{
+    text.get(at..).unwrap_or(&[])
+}
+
 // The field that starts at a place, and those after it; past the text's end it is empty, and the last.
 fn field_at<'a>(text: &'a [u8], at: usize) -> (Field<'a>, Fields<'a>)
     ensures cuts { placed at (cut (drop at text.now)) ≡ piece result.0 ∷ left result.1 }
     ensures ending { ending result.1 ≡ length text.now }
 {
-    if at > text.len() {
-        return cut_off(text, at, at, &text[0..0], None);
+    let rest = rest(text, at);
+    match separator(rest) {
+        Some(size) => cut_off(text, at, &rest[..size], Some(at + size + 1)),
+        None => cut_off(text, at, rest, None),
     }
-    let mut end = at;
-    while end < text.len() {
-        if text[end] == 10 {
-            return cut_off(text, at, end, &text[at..end], Some(end + 1));
-        }
-        end += 1;
-    }
-    cut_off(text, at, end, &text[at..end], None)
 }
 
-// A field, and the fields from a place on.
+// A field that starts at a place, and the fields from another place on.
 fn cut_off<'a>(
     text: &'a [u8],
     start: usize,
-    end: usize,
     bytes: &'a [u8],
     next: Option<usize>,
 ) -> (Field<'a>, Fields<'a>)
-    ensures field { piece result.0 ≡ record { start = start; end = end; bytes = bytes.now } }
+    requires { start + length bytes.now < 2 ^ 64 }
+    ensures field { piece result.0 ≡ record { start = start; end = start + length bytes.now; bytes = bytes.now } }
     ensures left { left result.1 ≡ from text.now next }
     ensures ending { ending result.1 ≡ length text.now }
 {
-    (Field { start, end, bytes }, Fields { text, next })
+    let end = start + bytes.len();
+    let place = Place { start, end };
+    (Field { place, bytes }, Fields { text, next })
 }

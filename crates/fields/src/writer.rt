@@ -1,5 +1,5 @@
 // A text written from its fields.
-ghost use Rattle.std.specs.Prelude.{◌≡◌, ◌+◌, ◌≤◌, ◌&&◌, leb, ◌∷◌, ◌++◌, length, take, drop, if◌then◌else◌, Some, None, nat_le};
+ghost use Rattle.std.specs.Prelude.{◌≡◌, ℕ, ◌+◌, ◌≤◌, Bool, leb, List, ◌∷◌, ◌++◌, length, take, drop, if◌then◌else◌, Some, None};
 ghost use Rattle.octets.specs.Fronts.{at_front};
 ghost use Rattle.fields.specs.Cuts.{joined, unbroken, all_unbroken};
 ghost use Rattle.fields.specs.Takes.{lists, writing, buffer_after};
@@ -9,38 +9,25 @@ use crate::refusal::TextRefusal;
 fn is_unbroken(field: &[u8]) -> bool
     ensures { result ≡ unbroken field.now }
 {
-    for b in field {
-        if *b == 10 {
-            return false;
-        }
-    }
-    true
+    !field.contains(&10)
 }
 
 fn all_unbroken(fields: &[&[u8]]) -> bool
     ensures { result ≡ all_unbroken (lists fields.now) }
 {
-    for field in fields {
-        if !is_unbroken(field) {
-            return false;
-        }
-    }
-    true
+    fields.iter().all(|field| is_unbroken(field))
 }
 
 // The length of the text, where it is not over `most`.
-fn joined_length(first: &[u8], rest: &[&[u8]], most: usize) -> Option<usize>
-    ensures { result ≡ (if leb (length (joined (first.now ∷ lists rest.now))) most then Some (length (joined (first.now ∷ lists rest.now))) else None) }
+fn joined_length(fields: &[&[u8]], most: usize) -> Option<usize>
+    ensures { result ≡ (if leb (length (joined (lists fields.now))) most then Some (length (joined (lists fields.now))) else None) }
 {
-    if first.len() > most {
-        return None;
-    }
-    let mut left = most - first.len();
+    let [first, rest @ ..] = fields else {
+        return Some(0);
+    };
+    let mut left = most.checked_sub(first.len())?;
     for field in rest {
-        if field.len() >= left {
-            return None;
-        }
-        left -= field.len() + 1;
+        left = left.checked_sub(field.len())?.checked_sub(1)?;
     }
     Some(most - left)
 }
@@ -59,53 +46,18 @@ fn lead(field: &[u8], at: usize, out: &mut [u8]) -> usize
 }
 
 // The text at the front of the output, which has room for it.
-fn lay(first: &[u8], rest: &[&[u8]], out: &mut [u8])
-    requires { length (joined (first.now ∷ lists rest.now)) ≤ length out.old }
-    ensures { out.new ≡ at_front (joined (first.now ∷ lists rest.now)) out.old }
+fn lay(fields: &[&[u8]], out: &mut [u8])
+    requires { length (joined (lists fields.now)) ≤ length out.old }
+    ensures { out.new ≡ at_front (joined (lists fields.now)) out.old }
 {
+    let [first, rest @ ..] = fields else {
+        return;
+    };
     let mut at = first.len();
-    out[0..at].copy_from_slice(first);
+    out[..at].copy_from_slice(first);
     for field in rest {
         at = lead(field, at, out);
     }
-}
-
-fn may_be_written(first: &[u8], rest: &[&[u8]], formed: bool, size: usize) -> bool
-    ensures { result ≡ (formed && (all_unbroken (first.now ∷ lists rest.now) && nat_le size 4096)) }
-{
-    formed && is_unbroken(first) && all_unbroken(rest) && size <= 4096
-}
-
-fn write_some(
-    first: &[u8],
-    rest: &[&[u8]],
-    formed: bool,
-    out: &mut [u8],
-) -> Result<usize, TextRefusal>
-    ensures answer { result ≡ writing (first.now ∷ lists rest.now) formed (length out.old) }
-    ensures output { out.new ≡ buffer_after (first.now ∷ lists rest.now) formed out.old }
-{
-    let Some(size) = joined_length(first, rest, out.len()) else {
-        return Err(TextRefusal::Buffer);
-    };
-    if !may_be_written(first, rest, formed, size) {
-        return Err(TextRefusal::Form);
-    }
-    lay(first, rest, out);
-    Ok(size)
-}
-
-fn write_any(fields: &[&[u8]], formed: bool, out: &mut [u8]) -> Result<usize, TextRefusal>
-    ensures answer { result ≡ writing (lists fields.now) formed (length out.old) }
-    ensures output { out.new ≡ buffer_after (lists fields.now) formed out.old }
-{
-    if fields.len() > 0 {
-        return write_some(fields[0], &fields[1..fields.len()], formed, out);
-    }
-    if !formed {
-        return Err(TextRefusal::Form);
-    }
-    Ok(0)
 }
 
 // Writes a text of these fields at the front of the output, and answers its length. Refusals 3 and 5 leave the output untouched;
@@ -114,5 +66,23 @@ pub fn write_fields(fields: &[&[u8]], formed: bool, out: &mut [u8]) -> Result<us
     ensures answer { result ≡ writing (lists fields.now) formed (length out.old) }
     ensures output { out.new ≡ buffer_after (lists fields.now) formed out.old }
 {
-    write_any(fields, formed, out)
+    let size = joined_length(fields, out.len()).ok_or(TextRefusal::Buffer)?;
+    if !(formed && all_unbroken(fields) && size <= 4096) {
+        return Err(TextRefusal::Form);
+    }
+    lay(fields, out);
+    Ok(size)
+}
+
+// What has a text.
+pub trait WriteText {
+    // The fields of its text, and whether they are well-formed.
+    ghost fields: { Self → List (List ℕ) };
+
+    ghost formed: { Self → Bool };
+
+    // Writes its text at the front of the output, and answers its length: refusals 3 and 5 leave the output untouched.
+    fn write(&self, out: &mut [u8]) -> Result<usize, TextRefusal>
+        ensures answer { result ≡ writing (fields self.now) (formed self.now) (length out.old) }
+        ensures output { out.new ≡ buffer_after (fields self.now) (formed self.now) out.old };
 }

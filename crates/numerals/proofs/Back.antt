@@ -7,7 +7,7 @@ use Rattle.std.proofs.lemmas.Fmt.{decimal_digit, decimal_nonempty, decimal-digit
 use Rattle.std.proofs.lemmas.Str.Parse.{IsNumeralModel, numerals_by_fold}
 use Rattle.std.proofs.lemmas.Bool.{and_parts, cases_lt, eq-eqb, eqb-false, eqb-true, lt-ltb, ltb-true, ne_eqb, not-true, not_from_false}
 use Rattle.std.proofs.lemmas.Bool.Decides.{nat_tests}
-use Rattle.numerals.specs.Decimals.{only_digits, plain, number_after, decimal_of}
+use Rattle.numerals.specs.Decimals.{only_digits, plain, number_after, decimal_as, decimal_of}
 use Rattle.numerals.specs.Digests.{digit_of, byte_of, joined, bytes_of, sized, digest_of}
 use Rattle.numerals.specs.Laws.{DecimalsReadBack, DigestsReadBack}
 
@@ -16,9 +16,13 @@ pub own : IsNumeralModel (λ t. only_digits t ≡ true) (number_after 0)
 unfolding only_digits number_after
 own = numerals_by_fold _ (search rules) number_after (search rules)
 
+-- Nothing is not something.
+none_not_some : {A : Type 0} {x : A} → ◌≡◌ {A = Option A} None (Some x) → ⊥
+none_not_some h = let z : ◌≡◌ {A = ℕ} 0 1 = cc in omega arith
+
 some_only : (b : Bool) (x n : ℕ) → cond b (Some x) None ≡ Some n → (b ≡ true) × (x ≡ n)
 some_only true x n e = (refl, cc)
-some_only false x n e = let z : ◌≡◌ {A = ℕ} 0 1 = cc in absurd (omega arith)
+some_only false x n e = absurd (none_not_some e)
 
 -- What a text that is read as n is.
 pub record Reads (k n : ℕ) (t : List ℕ) : Type 0 where
@@ -28,7 +32,7 @@ pub record Reads (k n : ℕ) (t : List ℕ) : Type 0 where
   pub within : n < k
 
 pub reads : (k n : ℕ) (t : List ℕ) → decimal_of k t ≡ Some n → Reads k n t
-unfolding decimal_of
+unfolding decimal_as
 reads k n t e =
     let s = some_only (plain t && (only_digits t && ltb (number_after 0 t) k)) (number_after 0 t) n e in
     let p = and_parts (plain t) (only_digits t && ltb (number_after 0 t) k) s.0 in
@@ -36,7 +40,7 @@ reads k n t e =
     record { plainly = p.0; digits = q.0; number = s.1; within = omega (arith, ltb-true (number_after 0 t) k q.1, s.1) }
 
 is_read : (k n : ℕ) (t : List ℕ) → Reads k n t → decimal_of k t ≡ Some n
-unfolding decimal_of
+unfolding decimal_as
 is_read k n t r = rw (r.plainly, r.digits, r.number, lt-ltb n k r.within)
 
 lead_plain : (t : List ℕ) → 0 < length t → (get_or t 0 0 ≡ 48 → length t ≡ 1) → plain t ≡ true
@@ -107,8 +111,8 @@ byte_only : (a b x : ℕ) → byte_of (digit_of a) (digit_of b) ≡ Some x → (
 byte_only a b x e = go (digit_of a) (digit_of b) refl refl e
   where
     go : (o p : Option ℕ) → digit_of a ≡ o → digit_of b ≡ p → byte_of o p ≡ Some x → (a ≡ digit (x / 16)) × (b ≡ digit (x % 16))
-    go None p f g i = let z : ◌≡◌ {A = ℕ} 0 1 = cc in absurd (omega arith)
-    go (Some h) None f g i = let z : ◌≡◌ {A = ℕ} 0 1 = cc in absurd (omega arith)
+    go None p f g i = absurd (none_not_some i)
+    go (Some h) None f g i = absurd (none_not_some i)
     go (Some h) (Some l) f g i =
         let q : h * 16 + l ≡ x = cc in
         let u = digit_only a h f in
@@ -117,14 +121,14 @@ byte_only a b x e = go (digit_of a) (digit_of b) refl refl e
 
 joined_only : (o : Option ℕ) (p : Option (List ℕ)) (bs : List ℕ) → joined o p ≡ Some bs
     → (x : ℕ) × ((xs : List ℕ) × ((o ≡ Some x) × (p ≡ Some xs) × (x ∷ xs ≡ bs)))
-joined_only None p bs e = let z : ◌≡◌ {A = ℕ} 0 1 = cc in absurd (omega arith)
-joined_only (Some x) None bs e = let z : ◌≡◌ {A = ℕ} 0 1 = cc in absurd (omega arith)
+joined_only None p bs e = absurd (none_not_some e)
+joined_only (Some x) None bs e = absurd (none_not_some e)
 joined_only (Some x) (Some xs) bs e = (x, (xs, (refl, refl, cc)))
 
 bytes_only : (t bs : List ℕ) → bytes_of t ≡ Some bs → t ≡ hexadecimal bs
 unfolding bytes_of hexadecimal
 bytes_only [] bs e = let q : [] ≡ bs = cc in ap hexadecimal q
-bytes_only (a ∷ []) bs e = let z : ◌≡◌ {A = ℕ} 0 1 = cc in absurd (omega arith)
+bytes_only (a ∷ []) bs e = absurd (none_not_some e)
 bytes_only (a ∷ b ∷ t) bs e =
     let j = joined_only (byte_of (digit_of a) (digit_of b)) (bytes_of t) bs e in
     let x : ℕ = j.0 in
@@ -135,9 +139,9 @@ bytes_only (a ∷ b ∷ t) bs e =
     let v : b ≡ digit (x % 16) = p.1 in
     (λ i. u i ∷ v i ∷ q i) ∙ ap hexadecimal j.1.1.2
 
-sized_only : (b : Bool) (o : Option (List ℕ)) (bs : List ℕ) → cond b o None ≡ Some bs → (b ≡ true) × (o ≡ Some bs)
+pub sized_only : (b : Bool) (o : Option (List ℕ)) (bs : List ℕ) → cond b o None ≡ Some bs → (b ≡ true) × (o ≡ Some bs)
 sized_only true o bs e = (refl, e)
-sized_only false o bs e = let z : ◌≡◌ {A = ℕ} 0 1 = cc in absurd (omega arith)
+sized_only false o bs e = absurd (none_not_some e)
 
 digest_only : (t bs : List ℕ) → digest_of t ≡ Some bs → (t ≡ hexadecimal bs) × (length bs ≡ 32)
 unfolding digest_of

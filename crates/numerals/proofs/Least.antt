@@ -5,9 +5,9 @@ use Rattle.std.specs.List.{AllByRecursion}
 use Rattle.std.proofs.lemmas.Fmt.{digits_decimal}
 use Rattle.std.proofs.lemmas.Bool.{and_parts, leb-true}
 use Rattle.std.proofs.lemmas.Bool.Decides.{nat_tests}
-use Rattle.numerals.specs.Decimals.{is_digit, only_digits, decimal_of}
+use Rattle.numerals.specs.Decimals.{is_digit, only_digits}
 use Rattle.numerals.specs.Digests.{digest_of}
-use Rattle.numerals.proofs.Back.{own, reads, digests_read_back}
+use Rattle.numerals.proofs.Back.{own, digests_read_back}
 
 digits_least : (t : List ℕ) → only_digits t ≡ true → AllByRecursion (λ b. 48 ≤ b) t
 unfolding only_digits
@@ -18,9 +18,6 @@ digits_least (c ∷ t) e =
 
 pub decimal_least : (n : ℕ) → n < 2 ^ 64 → AllByRecursion (λ b. 48 ≤ b) (decimal n)
 decimal_least n h = digits_least (decimal n) (digits_decimal own n h)
-
-pub read_decimal_least : (k n : ℕ) (t : List ℕ) → decimal_of k t ≡ Some n → AllByRecursion (λ b. 48 ≤ b) t
-read_decimal_least k n t e = digits_least t (reads k n t e).digits
 
 digit_least : (d : ℕ) → 48 ≤ digit d
 digit_least d = grind (arith, nat_tests)

@@ -21,6 +21,10 @@ unfoldable pub number_after : ℕ → List ℕ → ℕ
 number_after n [] = n
 number_after n (c ∷ t) = number_after (n * 10 + (c - 48)) t
 
+-- The number below k that a text stands for, as f shows it.
+unfoldable pub decimal_as : {N : Type 0} → (ℕ → N) → ℕ → List ℕ → Option N
+decimal_as f k t = cond (plain t && (only_digits t && nat_lt (number_after 0 t) k)) (Some (f (number_after 0 t))) None
+
 -- The number below k that a text stands for.
-unfoldable pub decimal_of : ℕ → List ℕ → Option ℕ
-decimal_of k t = cond (plain t && (only_digits t && nat_lt (number_after 0 t) k)) (Some (number_after 0 t)) None
+abbrev pub decimal_of : ℕ → List ℕ → Option ℕ
+decimal_of k t = decimal_as (λ n. n) k t

@@ -1,6 +1,6 @@
 // A decimal read digit by digit.
 ghost use Rattle.std.specs.Prelude.{◌≡◌, ◌+◌, ◌≤◌, IfSome};
-ghost use Rattle.numerals.specs.Decimals.{is_digit, plain, decimal_of};
+ghost use Rattle.numerals.specs.Decimals.{plain, decimal_of};
 
 // Some character, and no leading zero except in "0" itself.
 fn is_plain(text: &[u8]) -> bool
@@ -13,13 +13,6 @@ fn is_plain(text: &[u8]) -> bool
     }
 }
 
-// '0' to '9'.
-fn is_digit(c: u8) -> bool
-    ensures { result ≡ is_digit c }
-{
-    c >= b'0' && c <= b'9'
-}
-
 // The decimal that a text is, where it is at most `largest`.
 pub(crate) fn read_up_to(text: &[u8], largest: u64) -> Option<u64>
     ensures value { result ≡ decimal_of (largest + 1) text.now }
@@ -30,7 +23,7 @@ pub(crate) fn read_up_to(text: &[u8], largest: u64) -> Option<u64>
     }
     let mut n = 0u64;
     for c in text {
-        if !is_digit(*c) {
+        if !c.is_ascii_digit() {
             return None;
         }
         let next = u128::from(n) * 10 + u128::from(*c - b'0');

@@ -27,9 +27,10 @@ pub(crate) fn read_digest(text: &[u8]) -> Option<[u8; 32]>
     if !is_sized(text) {
         return None;
     }
+    let (pairs, _) = text.as_chunks::<2>();
     let mut bytes = [0; 32];
-    for i in 0..32 {
-        bytes[i] = byte(text[2 * i], text[2 * i + 1])?;
+    for (i, [high, low]) in pairs.iter().enumerate() {
+        bytes[i] = byte(*high, *low)?;
     }
     Some(bytes)
 }

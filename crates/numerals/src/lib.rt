@@ -1,19 +1,22 @@
 // Numbers and digests as text: hexadecimal digests read, decimals read and written.
 #![tactic(auto)]
 
-ghost use Rattle.std.specs.Prelude.{◌≡◌, ◌^◌, ◌<◌, ◌≤◌, length, take, IfSome, decimal};
-ghost use Rattle.numerals.specs.Decimals.{decimal_of};
+ghost use Rattle.std.specs.Prelude.{◌≡◌, ◌+◌, ◌<◌, ◌≤◌, length, take, IfSome, decimal};
+ghost use Rattle.numerals.specs.Decimals.{decimal_as};
 ghost use Rattle.numerals.specs.Digests.{digit_of, digest_of};
 ghost use Rattle.octets.specs.Fronts.{at_front};
 
 mod decimals;
 mod hexadecimal;
 mod laws;
+mod unsigned;
 mod writing;
 
 use decimals::read_up_to;
 use hexadecimal::read_digest;
 pub use laws::{decimals_read_back, digests_read_back, numerals_worked};
+pub use unsigned::Unsigned;
+pub use writing::Decimal;
 use writing::put;
 
 // What a lower-case hexadecimal digit stands for.
@@ -35,21 +38,11 @@ pub fn digest(text: &[u8]) -> Option<[u8; 32]>
     read_digest(text)
 }
 
-// The decimal below 2^32 that a text is, without a leading zero.
-pub fn decimal32(text: &[u8]) -> Option<u32>
-    ensures { result ≡ decimal_of (2 ^ 32) text.now }
+// The decimal that a text is, without a leading zero, where the type has it: at a type of numbers below k, `decimal_of k` of the text.
+pub fn decimal<N: Unsigned>(text: &[u8]) -> Option<N>
+    ensures { result ≡ decimal_as N.of (N.LARGEST + 1) text.now }
 {
-    match read_up_to(text, 4294967295) {
-        Some(n) => Some(n as u32),
-        None => None,
-    }
-}
-
-// The decimal below 2^64 that a text is, without a leading zero.
-pub fn decimal64(text: &[u8]) -> Option<u64>
-    ensures { result ≡ decimal_of (2 ^ 64) text.now }
-{
-    read_up_to(text, 18446744073709551615)
+    Some(N::of(read_up_to(text, N::LARGEST)?))
 }
 
 // Writes a number at the front of `out`, whose rest stays, and answers how many digits it has.

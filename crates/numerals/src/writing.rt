@@ -1,6 +1,40 @@
 // A decimal written digit by digit.
-ghost use Rattle.std.specs.Prelude.{◌≡◌, ◌+◌, ◌%◌, ◌≤◌, length, take, decimal};
+ghost use Rattle.std.specs.Prelude.{◌≡◌, ◌+◌, ◌%◌, ◌≤◌, List, length, take, decimal, ℕ};
 ghost use Rattle.octets.specs.Fronts.{at_front};
+
+use crate::write_decimal;
+use std::marker::Model;
+
+// A number's digits.
+#[derive(Drop)]
+pub struct Decimal {
+    digits: [u8; 20],
+    count: usize,
+}
+
+impl Model for Decimal {
+    ghost Value = { List ℕ };
+
+    ghost view = { λ d. take d.count d.digits };
+
+    ghost invariant = { λ d. d.count ≤ 20 };
+}
+
+impl Decimal {
+    pub fn new(n: u64) -> Decimal
+        ensures { result ≡ decimal n }
+    {
+        let mut digits = [0; 20];
+        let count = write_decimal(n, &mut digits);
+        Decimal { digits, count }
+    }
+
+    pub fn as_bytes(&self) -> &[u8]
+        ensures { result.now ≡ self.now }
+    {
+        &self.digits[..self.count]
+    }
+}
 
 // The character of a number's last digit.
 fn last_digit(n: u64) -> u8

@@ -1,7 +1,8 @@
 -- Go-aheads are read back from their texts, and no other text is read.
-use Rattle.std.proofs.Common.{◌≡◌, ℕ, Bool, true, false, cond, List, [], ◌∷◌, length, Some, None, Ok, codes, sym, refl, ap, ◌∙◌, arith}
+use Rattle.std.proofs.Common.{◌≡◌, ℕ, Bool, true, false, cond, List, [], ◌∷◌, length, Some, None, Ok, codes, sym, refl, ap, ◌∙◌}
 use Rattle.fields.specs.Cuts.{cut, fields, joined}
 use Rattle.fields.specs.Takes.{taken, ended, writing, must}
+use Rattle.fields.proofs.Ends.{none_not_some}
 use Rattle.fields.proofs.Joins.{joined_of_cut}
 use Rattle.octets.specs.Equality.{same}
 use Rattle.octets.proofs.Agreement.{same_decides}
@@ -26,7 +27,7 @@ word_only f g h = first (same f (codes "ready")) refl h
   where
     second : (b : Bool) → same f (codes "cancel") ≡ b → cond b (Some Cancel) None ≡ Some g → f ≡ signal_text g
     second true e h = let q : Cancel ≡ g = cc in (same_decides f (codes "cancel")).0 e ∙ ap signal_text q
-    second false e h = let z : ◌≡◌ {A = ℕ} 0 1 = cc in absurd (omega arith)
+    second false e h = absurd (none_not_some g h)
 
     first : (b : Bool) → same f (codes "ready") ≡ b → cond b (Some Ready) (cond (same f (codes "cancel")) (Some Cancel) None) ≡ Some g → f ≡ signal_text g
     first true e h = let q : Ready ≡ g = cc in (same_decides f (codes "ready")).0 e ∙ ap signal_text q

@@ -1,9 +1,8 @@
 // A go-ahead, read from its text and written as it.
-ghost use Rattle.std.specs.Prelude.{◌≡◌, true, [], ◌∷◌, length};
-ghost use Rattle.fields.specs.Takes.{writing, buffer_after};
+ghost use Rattle.std.specs.Prelude.{◌≡◌, true, [], ◌∷◌};
 ghost use Rattle.payloads.specs.Signals.{signal_text, signal, signal_of};
 
-use fields::{Fields, TextRefusal, WrongField, write_fields};
+use fields::{Fields, TextRefusal, WriteText, WrongField, write_fields};
 use octets::equal;
 
 #[derive(Clone, Copy, PartialEq, Eq, Debug)]
@@ -25,14 +24,6 @@ impl GoAhead {
         Ok(go_ahead)
     }
 
-    // Writes its text at the front of the output, and answers its length: refusals 3 and 5 leave the output untouched.
-    pub fn write(self, out: &mut [u8]) -> Result<usize, TextRefusal>
-        ensures answer { result ≡ writing (signal_text self ∷ []) true (length out.old) }
-        ensures output { out.new ≡ buffer_after (signal_text self ∷ []) true out.old }
-    {
-        write_fields(&[self.text()], true, out)
-    }
-
     fn text(self) -> &'static [u8]
         ensures { result.now ≡ signal_text self }
     {
@@ -43,15 +34,21 @@ impl GoAhead {
     }
 }
 
+impl WriteText for GoAhead {
+    ghost fields = { λ g. signal_text g ∷ [] };
+
+    ghost formed = { λ _. true };
+
+    fn write(&self, out: &mut [u8]) -> Result<usize, TextRefusal> {
+        write_fields(&[self.text()], true, out)
+    }
+}
+
 // The go-ahead that a field is, if it is one.
 fn of(field: &[u8]) -> Option<GoAhead>
     ensures { result ≡ signal field.now }
 {
-    if equal(field, b"ready") {
-        Some(GoAhead::Ready)
-    } else if equal(field, b"cancel") {
-        Some(GoAhead::Cancel)
-    } else {
-        None
-    }
+    [GoAhead::Ready, GoAhead::Cancel]
+        .into_iter()
+        .find(|go_ahead| equal(field, go_ahead.text()))
 }

@@ -1,14 +1,15 @@
 // A log-in, read from its text and written as it.
-ghost use Rattle.std.specs.Prelude.{◌≡◌, length};
-ghost use Rattle.fields.specs.Takes.{shown, writing, buffer_after};
+ghost use Rattle.std.specs.Prelude.{◌≡◌};
+ghost use Rattle.fields.specs.Takes.{shown};
 ghost use Rattle.payloads.specs.Credentials.{meant, credentials_fields, formed_credentials, credentials_of};
 
 use crate::writer::write_credentials;
-use fields::{Fields, TextRefusal, WrongField};
+use fields::{Fields, TextRefusal, WriteText, WrongField};
 use names::is_user;
+use numerals::Decimal;
 
 // When it was sent, and the user with the password, which are parts of the text that it was read from.
-#[derive(Clone, Copy)]
+#[derive(Clone, Copy, PartialEq, Eq, Debug)]
 pub struct LogIn<'a> {
     pub stamp: u64,
     pub user: &'a [u8],
@@ -21,7 +22,7 @@ impl<'a> LogIn<'a> {
         ensures { shown meant result ≡ credentials_of text.now }
     {
         let (stamp, rest) = Fields::of(text).take_closed(1)?;
-        let n = numerals::decimal64(stamp.bytes).ok_or(stamp.wrong(1))?;
+        let n = numerals::decimal(stamp.bytes).ok_or(stamp.wrong(1))?;
         let (user, rest) = rest.take_closed(2)?;
         if !is_user(user.bytes) {
             return Err(user.wrong(2));
@@ -39,13 +40,14 @@ impl<'a> LogIn<'a> {
     }
 }
 
-impl LogIn<'_> {
-    // Writes its text at the front of the output, and answers its length: refusals 3 and 5 leave the output untouched.
-    pub fn write(&self, out: &mut [u8]) -> Result<usize, TextRefusal>
-        ensures answer { result ≡ writing (credentials_fields (meant self.now)) (formed_credentials (meant self.now)) (length out.old) }
-        ensures output { out.new ≡ buffer_after (credentials_fields (meant self.now)) (formed_credentials (meant self.now)) out.old }
-    {
+impl WriteText for LogIn<'_> {
+    ghost fields = { λ x. credentials_fields (meant x) };
+
+    ghost formed = { λ x. formed_credentials (meant x) };
+
+    fn write(&self, out: &mut [u8]) -> Result<usize, TextRefusal> {
         let formed = is_user(self.user) && self.password.len() <= 64;
-        write_credentials(self.stamp, self.user, self.password, formed, out)
+        let stamp = Decimal::new(self.stamp);
+        write_credentials(stamp.as_bytes(), self.user, self.password, formed, out)
     }
 }

@@ -1,12 +1,12 @@
 // The response to a log-in, read from its text and written as it.
-ghost use Rattle.std.specs.Prelude.{◌≡◌, length};
-ghost use Rattle.fields.specs.Takes.{shown, writing, buffer_after};
+ghost use Rattle.std.specs.Prelude.{◌≡◌};
+ghost use Rattle.fields.specs.Takes.{shown};
 ghost use Rattle.payloads.specs.Receipts.{answered, answer_fields, formed_answer, answer_of};
 
-use fields::{Fields, TextRefusal, WrongField, write_fields};
+use fields::{Fields, TextRefusal, WriteText, WrongField, write_fields};
 
 // The digest of the request's payload, in 64 hexadecimal characters.
-#[derive(Clone, Copy)]
+#[derive(Clone, Copy, PartialEq, Eq, Debug)]
 pub struct LogInResponse<'a> {
     pub request: &'a [u8],
 }
@@ -25,12 +25,12 @@ impl<'a> LogInResponse<'a> {
     }
 }
 
-impl LogInResponse<'_> {
-    // Writes its text at the front of the output, and answers its length: refusals 3 and 5 leave the output untouched.
-    pub fn write(&self, out: &mut [u8]) -> Result<usize, TextRefusal>
-        ensures answer { result ≡ writing (answer_fields (answered self.now)) (formed_answer (answered self.now)) (length out.old) }
-        ensures output { out.new ≡ buffer_after (answer_fields (answered self.now)) (formed_answer (answered self.now)) out.old }
-    {
+impl WriteText for LogInResponse<'_> {
+    ghost fields = { λ x. answer_fields (answered x) };
+
+    ghost formed = { λ x. formed_answer (answered x) };
+
+    fn write(&self, out: &mut [u8]) -> Result<usize, TextRefusal> {
         let formed = numerals::digest(self.request).is_some();
         write_fields(&[self.request], formed, out)
     }

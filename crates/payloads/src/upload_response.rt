@@ -1,13 +1,14 @@
 // The response to an upload, read from its text and written as it.
-ghost use Rattle.std.specs.Prelude.{◌≡◌, length};
-ghost use Rattle.fields.specs.Takes.{shown, writing, buffer_after};
+ghost use Rattle.std.specs.Prelude.{◌≡◌};
+ghost use Rattle.fields.specs.Takes.{shown};
 ghost use Rattle.payloads.specs.Receipts.{meant, receipt_fields, formed_receipt, receipt_of};
 
 use crate::writer::write_receipt;
-use fields::{Fields, TextRefusal, WrongField};
+use fields::{Fields, TextRefusal, WriteText, WrongField};
+use numerals::Decimal;
 
 // The digest of what was stored, in 64 hexadecimal characters, and its size.
-#[derive(Clone, Copy)]
+#[derive(Clone, Copy, PartialEq, Eq, Debug)]
 pub struct UploadResponse<'a> {
     pub digest: &'a [u8],
     pub size: u32,
@@ -21,7 +22,7 @@ impl<'a> UploadResponse<'a> {
         let (digest, rest) = Fields::of(text).take(1)?;
         numerals::digest(digest.bytes).ok_or(digest.wrong(1))?;
         let (size, rest) = rest.take(2)?;
-        let n = numerals::decimal32(size.bytes).ok_or(size.wrong(2))?;
+        let n = numerals::decimal(size.bytes).ok_or(size.wrong(2))?;
         rest.end(3)?;
         Ok(UploadResponse {
             digest: digest.bytes,
@@ -30,13 +31,14 @@ impl<'a> UploadResponse<'a> {
     }
 }
 
-impl UploadResponse<'_> {
-    // Writes its text at the front of the output, and answers its length: refusals 3 and 5 leave the output untouched.
-    pub fn write(&self, out: &mut [u8]) -> Result<usize, TextRefusal>
-        ensures answer { result ≡ writing (receipt_fields (meant self.now)) (formed_receipt (meant self.now)) (length out.old) }
-        ensures output { out.new ≡ buffer_after (receipt_fields (meant self.now)) (formed_receipt (meant self.now)) out.old }
-    {
+impl WriteText for UploadResponse<'_> {
+    ghost fields = { λ x. receipt_fields (meant x) };
+
+    ghost formed = { λ x. formed_receipt (meant x) };
+
+    fn write(&self, out: &mut [u8]) -> Result<usize, TextRefusal> {
         let formed = numerals::digest(self.digest).is_some();
-        write_receipt(self.digest, self.size, formed, out)
+        let size = Decimal::new(u64::from(self.size));
+        write_receipt(self.digest, size.as_bytes(), formed, out)
     }
 }

@@ -8,7 +8,7 @@ use Rattle.fields.specs.Cuts.{cut, placed, joined, all_unbroken}
 use Rattle.fields.specs.Takes.{and_then, ended}
 use Rattle.fields.specs.declared.refusal.WrongField.{WrongField}
 use Rattle.fields.proofs.Joins.{joined_of_cut}
-use Rattle.fields.proofs.Ends.{err_not_ok, same_ok, and_then_ok, ok_or_ok}
+use Rattle.fields.proofs.Ends.{err_not_ok, none_not_some, same_ok, and_then_ok, ok_or_ok}
 use Rattle.numerals.specs.Decimals.{decimal_of}
 use Rattle.numerals.specs.Digests.{digest_of}
 use Rattle.numerals.proofs.Back.{decimals_read_back}
@@ -34,7 +34,7 @@ status_only w f g h = by (same f (status_text (granting w))) (same f (status_tex
         → f ≡ status_text (chosen g w)
     by true q e d h = let s : true ≡ g = cc in subst (λ z. f ≡ status_text (chosen z w)) s ((same_decides f (status_text (granting w))).0 e)
     by false true e d h = let s : false ≡ g = cc in subst (λ z. f ≡ status_text (chosen z w)) s ((same_decides f (status_text (refusing w))).0 d)
-    by false false e d h = let z : ◌≡◌ {A = ℕ} 0 1 = cc in absurd (omega arith)
+    by false false e d h = absurd (none_not_some g h)
 
 status_said : (w : Word) (s : Said) → status_of w s ≡ chosen (grants s) w
 status_said w done = refl

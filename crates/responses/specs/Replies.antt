@@ -101,22 +101,26 @@ pub record Told : Type 0 where
 abbrev pub told : Results → Told
 told r = record { said = saying r.outcome; first = r.first; second = r.second }
 
+-- What one field says.
+abbrev pub one_told : Said → Piece → Told
+one_told s f = record { said = s; first = Some (place f); second = None }
+
 -- One field in the fourth place, and no more.
 abbrev pub one_field : ℕ → List Piece → Result Piece WrongField
 one_field end ps = and_then (taken end 4 ps) (λ f. and_then (ended 5 f.1) (λ _. Ok f.0))
 
 abbrev pub path_told : ℕ → List Piece → Result Told WrongField
-path_told end ps = and_then (one_field end ps) (λ f. Ok (record { said = path f.bytes; first = Some (place f); second = None }))
+path_told end ps = and_then (one_field end ps) (λ f. Ok (one_told (path f.bytes) f))
 
 abbrev pub refusal_told : ℕ → List Piece → Result Told WrongField
-refusal_told end ps = and_then (one_field end ps) (λ f. Ok (record { said = refused f.bytes; first = Some (place f); second = None }))
+refusal_told end ps = and_then (one_field end ps) (λ f. Ok (one_told (refused f.bytes) f))
 
 -- A listing in canonical Base64.
 abbrev pub listing_told : ℕ → List Piece → Result Told WrongField
 listing_told end ps =
     and_then (taken end 4 ps) (λ f.
     and_then (must 4 f.0 (decode f.0.bytes)) (λ _.
-    and_then (ended 5 f.1) (λ _. Ok (record { said = listing f.0.bytes; first = Some (place f.0); second = None }))))
+    and_then (ended 5 f.1) (λ _. Ok (one_told (listing f.0.bytes) f.0))))
 
 -- Size and digest of a file.
 abbrev pub file_told : ℕ → List Piece → Result Told WrongField

@@ -1,12 +1,26 @@
 // A response read from its text.
 ghost use Rattle.std.specs.Prelude.{◌≡◌};
 ghost use Rattle.fields.specs.Takes.{piece, left, ending, shown, must};
+ghost use Rattle.words.specs.Statuses.{grants};
 ghost use Rattle.words.specs.Words.{word_of};
-ghost use Rattle.responses.specs.Replies.{placed_meant, told, one_field, path_told, refusal_told, listing_told, file_told, granted_told, told_of, reply_of};
+ghost use Rattle.responses.specs.Replies.{placed_meant, saying, told, one_told, one_field, listing_told, file_told, granted_told, told_of, reply_of};
 
 use crate::response::{Outcome, PlacedResponse, Places, Response, Results};
 use fields::{Field, Fields, WrongField};
 use words::{Status, Tells, Word};
+
+impl<'a> Results<'a> {
+    // What one field says.
+    fn one(outcome: Outcome<'a>, field: Field<'a>) -> Results<'a>
+        ensures { told result ≡ one_told (saying outcome.entry) (piece field.entry) }
+    {
+        Results {
+            outcome,
+            first: Some(field.place()),
+            second: None,
+        }
+    }
+}
 
 // The only field that is left, which is number 4.
 fn one_field<'a>(fields: Fields<'a>) -> Result<Field<'a>, WrongField>
@@ -17,28 +31,6 @@ fn one_field<'a>(fields: Fields<'a>) -> Result<Field<'a>, WrongField>
     Ok(field)
 }
 
-fn path<'a>(fields: Fields<'a>) -> Result<Results<'a>, WrongField>
-    ensures { shown told result ≡ path_told (ending fields.entry) (left fields.entry) }
-{
-    let field = one_field(fields)?;
-    Ok(Results {
-        outcome: Outcome::Path(field.bytes),
-        first: Some(field.place()),
-        second: None,
-    })
-}
-
-fn refusal<'a>(fields: Fields<'a>) -> Result<Results<'a>, WrongField>
-    ensures { shown told result ≡ refusal_told (ending fields.entry) (left fields.entry) }
-{
-    let field = one_field(fields)?;
-    Ok(Results {
-        outcome: Outcome::Refused(field.bytes),
-        first: Some(field.place()),
-        second: None,
-    })
-}
-
 fn listing<'a>(fields: Fields<'a>) -> Result<Results<'a>, WrongField>
     ensures { shown told result ≡ listing_told (ending fields.entry) (left fields.entry) }
 {
@@ -47,18 +39,14 @@ fn listing<'a>(fields: Fields<'a>) -> Result<Results<'a>, WrongField>
         return Err(field.wrong(4));
     }
     rest.end(5)?;
-    Ok(Results {
-        outcome: Outcome::Listing(field.bytes),
-        first: Some(field.place()),
-        second: None,
-    })
+    Ok(Results::one(Outcome::Listing(field.bytes), field))
 }
 
 fn file<'a>(fields: Fields<'a>) -> Result<Results<'a>, WrongField>
     ensures { shown told result ≡ file_told (ending fields.entry) (left fields.entry) }
 {
     let (size, rest) = fields.take(4)?;
-    let n = numerals::decimal32(size.bytes).ok_or(size.wrong(4))?;
+    let n = numerals::decimal(size.bytes).ok_or(size.wrong(4))?;
     let (digest, rest) = rest.take(5)?;
     numerals::digest(digest.bytes).ok_or(digest.wrong(5))?;
     rest.end(6)?;
@@ -84,7 +72,10 @@ fn granted<'a>(tells: Tells, fields: Fields<'a>) -> Result<Results<'a>, WrongFie
                 second: None,
             })
         }
-        Tells::Path => path(fields),
+        Tells::Path => {
+            let field = one_field(fields)?;
+            Ok(Results::one(Outcome::Path(field.bytes), field))
+        }
         Tells::Listing => listing(fields),
         Tells::File => file(fields),
     }
@@ -94,16 +85,17 @@ fn granted<'a>(tells: Tells, fields: Fields<'a>) -> Result<Results<'a>, WrongFie
 fn word(first: &Field<'_>) -> Result<Word, WrongField>
     ensures { result ≡ must 1 (piece first.now) (word_of first.now.bytes.now) }
 {
-    Word::try_from(first.bytes).ok().ok_or(first.wrong(1))
+    Word::try_from(first.bytes).map_err(|_| first.wrong(1))
 }
 
-fn results<'a>(word: Word, grants: bool, fields: Fields<'a>) -> Result<Results<'a>, WrongField>
-    ensures { shown told result ≡ told_of grants word (ending fields.entry) (left fields.entry) }
+fn results<'a>(word: Word, status: Status, fields: Fields<'a>) -> Result<Results<'a>, WrongField>
+    ensures { shown told result ≡ told_of (grants status) word (ending fields.entry) (left fields.entry) }
 {
-    if grants {
+    if status.grants() {
         granted(Tells::of(word), fields)
     } else {
-        refusal(fields)
+        let field = one_field(fields)?;
+        Ok(Results::one(Outcome::Refused(field.bytes), field))
     }
 }
 
@@ -118,7 +110,7 @@ impl<'a> Response<'a> {
         numerals::digest(request.bytes).ok_or(request.wrong(2))?;
         let (status, rest) = rest.take(3)?;
         let given = Status::of(word, status.bytes).ok_or(status.wrong(3))?;
-        let results = results(word, given.grants(), rest)?;
+        let results = results(word, given, rest)?;
         Ok(PlacedResponse {
             response: Response {
                 word,

@@ -3,7 +3,7 @@ use fields::Place;
 use words::Word;
 
 // What a response says after its status.
-#[derive(Clone, Copy)]
+#[derive(Clone, Copy, PartialEq, Eq, Debug)]
 pub enum Outcome<'a> {
     // the command was done, and there is nothing to tell
     Done,
@@ -16,7 +16,7 @@ pub enum Outcome<'a> {
 }
 
 // The command's word, the digest of its payload in 64 characters, and what came of it.
-#[derive(Clone, Copy)]
+#[derive(Clone, Copy, PartialEq, Eq, Debug)]
 pub struct Response<'a> {
     pub word: Word,
     pub request: &'a [u8],
@@ -24,7 +24,7 @@ pub struct Response<'a> {
 }
 
 // Where the fields of a response stand.
-#[derive(Clone, Copy)]
+#[derive(Clone, Copy, PartialEq, Eq, Debug)]
 pub struct Places {
     pub word: Place,
     pub request: Place,
@@ -34,7 +34,7 @@ pub struct Places {
 }
 
 // A response as it was read, with the places of its fields.
-#[derive(Clone, Copy)]
+#[derive(Clone, Copy, PartialEq, Eq, Debug)]
 pub struct PlacedResponse<'a> {
     pub response: Response<'a>,
     pub places: Places,

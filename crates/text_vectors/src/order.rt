@@ -3,7 +3,7 @@ use crate::answer::Answered;
 use crate::text::{Ascii, Text, shown, written};
 use cases::{Fault, Hex, bytes, number};
 use commands::Command;
-use fields::TextRefusal;
+use fields::{TextRefusal, WriteText};
 use std::alloc::Global;
 use std::fmt;
 use std::fmt::Display;

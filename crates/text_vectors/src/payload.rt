@@ -2,7 +2,7 @@
 use crate::answer::Answered;
 use crate::text::{Text, shown, written};
 use cases::{Fault, Hex, bytes, number};
-use fields::TextRefusal;
+use fields::{TextRefusal, WriteText};
 use payloads::{GoAhead, LogIn, LogInResponse, UploadResponse};
 use std::alloc::Global;
 use std::fmt;

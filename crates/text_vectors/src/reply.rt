@@ -3,7 +3,7 @@ use crate::answer::Answered;
 use crate::order::word_of;
 use crate::text::{Ascii, Text, shown, written};
 use cases::{Fault, Hex, bytes, number};
-use fields::{Place, TextRefusal};
+use fields::{Place, TextRefusal, WriteText};
 use responses::{Outcome, PlacedResponse, Response};
 use std::alloc::Global;
 use std::fmt;

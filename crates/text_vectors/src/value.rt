@@ -6,7 +6,7 @@ use std::alloc::Global;
 
 // A number below 2^32.
 pub(crate) fn size(heap: Global, word: &str) -> Result<Answered, Fault> {
-    match numerals::decimal32(&bytes(heap, word)?) {
+    match numerals::decimal::<u32>(&bytes(heap, word)?) {
         Some(n) => Ok(Answered::Number(u64::from(n))),
         None => Ok(Answered::Nothing),
     }
@@ -14,7 +14,7 @@ pub(crate) fn size(heap: Global, word: &str) -> Result<Answered, Fault> {
 
 // A number below 2^64.
 pub(crate) fn stamp(heap: Global, word: &str) -> Result<Answered, Fault> {
-    match numerals::decimal64(&bytes(heap, word)?) {
+    match numerals::decimal::<u64>(&bytes(heap, word)?) {
         Some(n) => Ok(Answered::Number(n)),
         None => Ok(Answered::Nothing),
     }

@@ -9,11 +9,11 @@ returns-then-not-is_plain c =
 pub loop-c-init : goal.loop-c-init
 loop-c-init c = (omega arith, from_zero (c.args.largest + 1) c.args.text.now (sym c.if-not-is_plain.ensures))
 
-pub returns-then-not-is_digit : goal.returns-then-not-is_digit
-returns-then-not-is_digit c =
+pub returns-then-not-is_ascii_digit : goal.returns-then-not-is_ascii_digit
+returns-then-not-is_ascii_digit c =
     record {
       value = digit_stops (c.args.largest + 1) c.loop-c.n c.loop-c.c-index c.args.text.now _ c.loop-c-test.true
-          (sym c.if-not-is_digit.ensures) c.loop-c.invariant.1;
+          (sym c.if-not-is_ascii_digit.ensures.value) c.loop-c.invariant.1;
       within = tt;
     }
 
@@ -23,7 +23,7 @@ returns-then-next-from c =
     let e : x ≡ c.loop-c.n * 10 + (get_or c.args.text.now c.loop-c.c-index 0 - 48) = omega arith in
     record {
       value = digit_large (c.args.largest + 1) c.loop-c.n c.loop-c.c-index x c.args.text.now _ c.loop-c-test.true
-          (sym c.if-not-is_digit.ensures) e (omega arith) c.loop-c.invariant.1;
+          (sym c.if-not-is_ascii_digit.ensures.value) e (omega arith) c.loop-c.invariant.1;
       within = tt;
     }
 
@@ -33,7 +33,7 @@ loop-c-preserved c =
     let e : x ≡ c.loop-c.n * 10 + (get_or c.args.text.now c.loop-c.c-index 0 - 48) = omega arith in (
       omega arith,
       digit-more (c.args.largest + 1) c.loop-c.n c.loop-c.c-index x c.args.text.now _ c.loop-c-test.true
-          (sym c.if-not-is_digit.ensures) e c.loop-c.invariant.1,
+          (sym c.if-not-is_ascii_digit.ensures.value) e c.loop-c.invariant.1,
     )
 
 pub returns : goal.returns

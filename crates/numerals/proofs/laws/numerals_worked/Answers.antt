@@ -1,10 +1,10 @@
 use Rattle.std.proofs.Common.{refl}
-use Rattle.numerals.specs.Decimals.{only_digits, number_after, decimal_of}
+use Rattle.numerals.specs.Decimals.{only_digits, number_after, decimal_as}
 use Rattle.numerals.specs.Digests.{bytes_of, digest_of}
 use Rattle.numerals.proofs.laws.numerals_worked.Goals as goal
 
 pub returns : goal.returns
-unfolding only_digits number_after decimal_of bytes_of digest_of
+unfolding only_digits number_after decimal_as bytes_of digest_of
 returns c =
     record {
       zero = refl;

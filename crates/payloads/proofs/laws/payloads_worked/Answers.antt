@@ -1,12 +1,12 @@
 use Rattle.std.proofs.Common.{refl}
 use Rattle.names.specs.Names.{letters}
-use Rattle.numerals.specs.Decimals.{only_digits, number_after, decimal_of}
+use Rattle.numerals.specs.Decimals.{only_digits, number_after, decimal_as}
 use Rattle.numerals.specs.Digests.{bytes_of, digest_of}
 use Rattle.octets.specs.Equality.{same}
 use Rattle.payloads.proofs.laws.payloads_worked.Goals as goal
 
 pub returns : goal.returns
-unfolding letters only_digits number_after decimal_of bytes_of digest_of same
+unfolding letters only_digits number_after decimal_as bytes_of digest_of same
 returns c =
     record {
       log_in = refl;
