@@ -6,18 +6,14 @@ use std::alloc::Global;
 
 // A number below 2^32.
 pub(crate) fn size(heap: Global, word: &str) -> Result<Answered, Fault> {
-    match numerals::decimal32(&bytes(heap, word)?) {
-        Some(n) => Ok(Answered::Number(u64::from(n))),
-        None => Ok(Answered::Nothing),
-    }
+    let size = numerals::decimal32(&bytes(heap, word)?);
+    Ok(size.map_or(Answered::Nothing, |n| Answered::Number(u64::from(n))))
 }
 
 // A number below 2^64.
 pub(crate) fn stamp(heap: Global, word: &str) -> Result<Answered, Fault> {
-    match numerals::decimal64(&bytes(heap, word)?) {
-        Some(n) => Ok(Answered::Number(n)),
-        None => Ok(Answered::Nothing),
-    }
+    let stamp = numerals::decimal64(&bytes(heap, word)?);
+    Ok(stamp.map_or(Answered::Nothing, Answered::Number))
 }
 
 pub(crate) fn digest(heap: Global, word: &str) -> Result<Answered, Fault> {
@@ -48,8 +44,9 @@ pub(crate) fn cause(heap: Global, word: &str) -> Result<Answered, Fault> {
 
 // The number of the cause of some words.
 pub(crate) fn cause_word(heap: Global, word: &str) -> Result<Answered, Fault> {
-    match Cause::of_word(&bytes(heap, word)?) {
-        Some(cause) => Ok(Answered::Number(u64::from(cause.number()))),
-        None => Ok(Answered::Nothing),
-    }
+    let cause = Cause::of_word(&bytes(heap, word)?);
+    Ok(cause.map_or(
+        Answered::Nothing,
+        |cause| Answered::Number(u64::from(cause.number())),
+    ))
 }
