@@ -1,6 +1,4 @@
 // The texts of one upload: each is written by the end that says it, and read back as the other end does.
-ghost use Rattle.std.specs.Prelude.{◌≡◌, min, length, take};
-
 use crate::shown::Shown;
 use crate::text_failure::TextFailure;
 use commands::Command;
@@ -18,44 +16,20 @@ const USER: &[u8] = b"alice";
 
 const PASSWORD: &[u8] = b"aaa";
 
-// The front of a buffer.
-fn front(buffer: &[u8], size: usize) -> &[u8]
-    ensures { result.now ≡ take (min size (length buffer.now)) buffer.now }
-{
-    let end = size.min(buffer.len());
-    &buffer[0..end]
+// Writes a text at the front of the buffer, prints it under its name, and answers it.
+fn say<'b, T: WriteText>(
+    rt: &impl Print,
+    name: &str,
+    said: &T,
+    buffer: &'b mut [u8],
+) -> Result<&'b [u8], TextFailure> {
+    let size = said.write(buffer)?;
+    let text = buffer.get(..size).ok_or(TextFailure::Unlike)?;
+    println!(rt; "{name}: {}", Shown(text))?;
+    Ok(text)
 }
 
-// The log-in and its response.
-pub fn log_in(rt: &HostRuntime, buffer: &mut [u8]) -> Result<(), TextFailure> {
-    let log_in = LogIn {
-        stamp: STAMP,
-        user: USER,
-        password: PASSWORD,
-    };
-    let size = log_in.write(buffer)?;
-    let text = front(buffer, size);
-    let shown = Shown(text);
-    println!(rt; "log-in: {shown}")?;
-    let read = LogIn::read(text)?;
-    let stamp = read.stamp;
-    let user = Shown(read.user);
-    let count = read.password.len();
-    println!(rt; "  read back: stamp {stamp}, user {user}, a password of {count} bytes")?;
-    let digest = hexadecimal(&sha256(text));
-    log_in_response(rt, &digest, buffer)
-}
-
-fn log_in_response(rt: &HostRuntime, request: &[u8], buffer: &mut [u8]) -> Result<(), TextFailure> {
-    let size = LogInResponse { request }.write(buffer)?;
-    let text = front(buffer, size);
-    let shown = Shown(text);
-    println!(rt; "log-in response: {shown}")?;
-    let read = LogInResponse::read(text)?;
-    told(rt, equal(read.request, request), "it answers that log-in")
-}
-
-fn told(rt: &HostRuntime, is_so: bool, what: &str) -> Result<(), TextFailure> {
+fn told(rt: &impl Print, is_so: bool, what: &str) -> Result<(), TextFailure> {
     if !is_so {
         return Err(TextFailure::Unlike);
     }
@@ -63,9 +37,34 @@ fn told(rt: &HostRuntime, is_so: bool, what: &str) -> Result<(), TextFailure> {
     Ok(())
 }
 
+// The log-in and its response.
+pub fn log_in(rt: &impl Print, buffer: &mut [u8]) -> Result<(), TextFailure> {
+    let log_in = LogIn {
+        stamp: STAMP,
+        user: USER,
+        password: PASSWORD,
+    };
+    let text = say(rt, "log-in", &log_in, buffer)?;
+    let read = LogIn::read(text)?;
+    let user = Shown(read.user);
+    let count = read.password.len();
+    println!(rt;
+        "  read back: stamp {}, user {user}, a password of {count} bytes",
+        read.stamp
+    )?;
+    let digest = hexadecimal(&sha256(text));
+    log_in_response(rt, &digest, buffer)
+}
+
+fn log_in_response(rt: &impl Print, request: &[u8], buffer: &mut [u8]) -> Result<(), TextFailure> {
+    let text = say(rt, "log-in response", &LogInResponse { request }, buffer)?;
+    let read = LogInResponse::read(text)?;
+    told(rt, equal(read.request, request), "it answers that log-in")
+}
+
 // The command to upload the file, and its response.
 pub fn upload(
-    rt: &HostRuntime,
+    rt: &impl Print,
     name: &[u8],
     file: &[u8],
     size: u32,
@@ -77,10 +76,7 @@ pub fn upload(
         size,
         digest: &digest,
     };
-    let length = command.write(buffer)?;
-    let text = front(buffer, length);
-    let shown = Shown(text);
-    println!(rt; "command: {shown}")?;
+    let text = say(rt, "command", &command, buffer)?;
     let Command::Upl { name, size, .. } = Command::read(text)? else {
         return Err(TextFailure::Unlike);
     };
@@ -90,21 +86,17 @@ pub fn upload(
     upload_accepted(rt, &request, buffer)
 }
 
-fn upload_accepted(rt: &HostRuntime, request: &[u8], buffer: &mut [u8]) -> Result<(), TextFailure> {
+fn upload_accepted(rt: &impl Print, request: &[u8], buffer: &mut [u8]) -> Result<(), TextFailure> {
     let response = Response {
         word: Word::Upl,
         request,
         outcome: Outcome::Done,
     };
-    let size = response.write(buffer)?;
-    let text = front(buffer, size);
-    let shown = Shown(text);
-    println!(rt; "response: {shown}")?;
+    let text = say(rt, "response", &response, buffer)?;
     let read = Response::read(text)?;
-    let start = read.places.status.start;
-    let end = read.places.status.end;
+    let place = read.places.status;
     let status = Shown(read.response.status().text());
-    println!(rt; "  read back: {status}, from byte {start} to {end}")?;
+    println!(rt; "  read back: {status}, from byte {} to {}", place.start, place.end)?;
     told(
         rt,
         equal(read.response.request, request),
@@ -114,7 +106,7 @@ fn upload_accepted(rt: &HostRuntime, request: &[u8], buffer: &mut [u8]) -> Resul
 
 // What the server says of a file that it keeps.
 pub fn uploaded(
-    rt: &HostRuntime,
+    rt: &impl Print,
     received: &[u8],
     size: u32,
     buffer: &mut [u8],
@@ -124,10 +116,7 @@ pub fn uploaded(
         digest: &digest,
         size,
     };
-    let length = response.write(buffer)?;
-    let text = front(buffer, length);
-    let shown = Shown(text);
-    println!(rt; "upload response: {shown}")?;
+    let text = say(rt, "upload response", &response, buffer)?;
     let read = UploadResponse::read(text)?;
     told(
         rt,

@@ -3,7 +3,7 @@ ghost use Rattle.std.specs.Prelude.{◌≡◌, [], ◌∷◌, length};
 ghost use Rattle.fields.specs.Takes.{writing, buffer_after};
 ghost use Rattle.responses.specs.Replies.{saying, meant, status_of, suits, reply_fields, formed};
 
-use crate::response::{Outcome, Response};
+use crate::response::{Outcome, PlacedResponse, Response};
 use fields::{TextRefusal, WriteText, write_fields};
 use numerals::Decimal;
 use words::{Status, Tells};
@@ -60,6 +60,17 @@ impl<'a> WriteText for Response<'a> {
                 write_file(word, request, status, size.as_bytes(), digest, formed, out)
             }
         }
+    }
+}
+
+// A response that was read is written as what it says.
+impl WriteText for PlacedResponse<'_> {
+    ghost fields = { λ p. reply_fields (meant p.response) };
+
+    ghost formed = { λ p. formed (meant p.response) };
+
+    fn write(&self, out: &mut [u8]) -> Result<usize, TextRefusal> {
+        self.response.write(out)
     }
 }
 

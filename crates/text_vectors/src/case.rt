@@ -2,15 +2,15 @@
 use crate::answer::Answered;
 use crate::kind::{read, write};
 use crate::listing::{canonical, decode, decode_in, encode, encode_in};
-use crate::value::{cause, cause_word, digest, name, size, stamp, user};
+use crate::value::{cause, cause_word, decimal, digest, name, user};
 use cases::{Answer, Fault};
 use std::alloc::Global;
 
 // A form that takes one word.
 fn of_one(heap: Global, form: &str, word: &str) -> Result<Answered, Fault> {
     match form {
-        "decimal32" => size(heap, word),
-        "decimal64" => stamp(heap, word),
+        "decimal32" => decimal::<u32>(heap, word),
+        "decimal64" => decimal::<u64>(heap, word),
         "digest" => digest(heap, word),
         "name" => name(heap, word),
         "user" => user(heap, word),

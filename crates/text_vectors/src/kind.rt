@@ -1,13 +1,15 @@
 // The kinds of texts.
 use crate::answer::Answered;
-use crate::order::{read_order, write_order};
-use crate::payload::{
-    read_go_ahead, read_log_in, read_log_in_response, read_upload_response, write_go_ahead,
-    write_log_in, write_log_in_response, write_upload_response,
-};
-use crate::reply::{read_reply, write_reply};
+use crate::order::write_command;
+use crate::payload::{write_go_ahead, write_log_in, write_log_in_response, write_upload_response};
+use crate::reply::write_response;
+use crate::text::told;
 use cases::{Fault, bytes};
+use commands::Command;
+use payloads::{GoAhead, LogIn, LogInResponse, UploadResponse};
+use responses::Response;
 use std::alloc::Global;
+use std::str::FromStr;
 
 #[derive(Clone, Copy)]
 pub enum Kind {
@@ -19,8 +21,10 @@ pub enum Kind {
     GoAhead,
 }
 
-impl Kind {
-    fn named(word: &str) -> Result<Kind, Fault> {
+impl FromStr for Kind {
+    type Err = Fault;
+
+    fn from_str(word: &str) -> Result<Kind, Fault> {
         match word {
             "log-in" => Ok(Kind::LogIn),
             "log-in-response" => Ok(Kind::LogInResponse),
@@ -31,15 +35,17 @@ impl Kind {
             _ => Err(Fault::Form),
         }
     }
+}
 
+impl Kind {
     fn read(self, heap: Global, text: &[u8]) -> Result<Answered, Fault> {
         match self {
-            Kind::LogIn => read_log_in(heap, text),
-            Kind::LogInResponse => read_log_in_response(heap, text),
-            Kind::Command => read_order(heap, text),
-            Kind::Response => read_reply(heap, text),
-            Kind::UploadResponse => read_upload_response(heap, text),
-            Kind::GoAhead => read_go_ahead(heap, text),
+            Kind::LogIn => told(heap, text, LogIn::read(text)),
+            Kind::LogInResponse => told(heap, text, LogInResponse::read(text)),
+            Kind::Command => told(heap, text, Command::read(text)),
+            Kind::Response => told(heap, text, Response::read(text)),
+            Kind::UploadResponse => told(heap, text, UploadResponse::read(text)),
+            Kind::GoAhead => told(heap, text, GoAhead::read(text)),
         }
     }
 
@@ -47,8 +53,8 @@ impl Kind {
         match self {
             Kind::LogIn => write_log_in(heap, room, values),
             Kind::LogInResponse => write_log_in_response(heap, room, values),
-            Kind::Command => write_order(heap, room, values),
-            Kind::Response => write_reply(heap, room, values),
+            Kind::Command => write_command(heap, room, values),
+            Kind::Response => write_response(heap, room, values),
             Kind::UploadResponse => write_upload_response(heap, room, values),
             Kind::GoAhead => write_go_ahead(heap, room, values),
         }
@@ -60,7 +66,7 @@ pub(crate) fn read(heap: Global, words: &[&str]) -> Result<Answered, Fault> {
     let [kind, text] = words else {
         return Err(Fault::Count);
     };
-    Kind::named(kind)?.read(heap, &bytes(heap, text)?)
+    kind.parse::<Kind>()?.read(heap, &bytes(heap, text)?)
 }
 
 // The words are a kind, the size of the buffer, and what is to be written.
@@ -68,5 +74,5 @@ pub(crate) fn write(heap: Global, words: &[&str]) -> Result<Answered, Fault> {
     let [kind, room, values @ ..] = words else {
         return Err(Fault::Count);
     };
-    Kind::named(kind)?.write(heap, room, values)
+    kind.parse::<Kind>()?.write(heap, room, values)
 }

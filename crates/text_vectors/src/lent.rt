@@ -24,12 +24,7 @@ impl Lent {
 
     // Whether it is as it was from a place on.
     fn is_untouched(&self, from: usize) -> bool {
-        for i in from..self.bytes.len() {
-            if self.bytes[i] != FILL {
-                return false;
-            }
-        }
-        true
+        self.bytes.iter().skip(from).all(|byte| *byte == FILL)
     }
 
     // The bytes that were written at its front, if the rest is as it was.

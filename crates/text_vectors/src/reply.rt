@@ -1,22 +1,13 @@
 // Responses to commands.
 use crate::answer::Answered;
-use crate::order::word_of;
-use crate::text::{Ascii, Text, shown, written};
+use crate::text::{Ascii, Shown, Text, written};
 use cases::{Fault, Hex, bytes, number};
-use fields::{Place, TextRefusal, WriteText};
+use fields::Place;
 use responses::{Outcome, PlacedResponse, Response};
 use std::alloc::Global;
 use std::fmt;
 use std::fmt::Display;
 use words::Word;
-
-// A response that was read, with its places.
-#[derive(Drop)]
-pub struct PlacedReply<'a>(PlacedResponse<'a>);
-
-// A response that is to be written.
-#[derive(Drop)]
-pub struct Reply<'a>(Response<'a>);
 
 // What is said after the status.
 #[derive(Drop)]
@@ -47,116 +38,90 @@ impl fmt::Display for Span {
     }
 }
 
-impl fmt::Display for Reply<'_> {
-    fn fmt<W: fmt::Write>(&self, f: &mut fmt::Formatter<W>) -> fmt::Result {
-        let word = Ascii(self.0.word.text());
-        let request = Hex(self.0.request);
-        let status = Ascii(self.0.status().text());
-        write!(f, "{word} {request} {status} {}", Said(self.0.outcome))
+impl Text for Response<'_> {
+    fn show<W: fmt::Write>(&self, f: &mut fmt::Formatter<W>) -> fmt::Result {
+        let word = Ascii(self.word.text());
+        let status = Ascii(self.status().text());
+        write!(
+            f,
+            "{word} {} {status} {}",
+            Hex(self.request),
+            Said(self.outcome)
+        )
     }
 }
 
-impl fmt::Display for PlacedReply<'_> {
-    fn fmt<W: fmt::Write>(&self, f: &mut fmt::Formatter<W>) -> fmt::Result {
-        let places = self.0.places;
-        Reply(self.0.response).fmt(f)?;
-        Span(Some(places.word)).fmt(f)?;
-        Span(Some(places.request)).fmt(f)?;
-        Span(Some(places.status)).fmt(f)?;
-        Span(places.first).fmt(f)?;
-        Span(places.second).fmt(f)
+// With the place of each field.
+impl Text for PlacedResponse<'_> {
+    fn show<W: fmt::Write>(&self, f: &mut fmt::Formatter<W>) -> fmt::Result {
+        let places = self.places;
+        self.response.show(f)?;
+        for place in [
+            Some(places.word),
+            Some(places.request),
+            Some(places.status),
+            places.first,
+            places.second,
+        ] {
+            Span(place).fmt(f)?;
+        }
+        Ok(())
     }
 }
 
-impl Text for Reply<'_> {
-    fn put(&self, out: &mut [u8]) -> Result<usize, TextRefusal> {
-        self.0.write(out)
+// What is said in no field, in one and in two.
+fn in_none(said: &str) -> Result<Outcome<'static>, Fault> {
+    match said {
+        "done" => Ok(Outcome::Done),
+        _ => Err(Fault::Form),
     }
 }
 
-impl Text for PlacedReply<'_> {
-    fn put(&self, out: &mut [u8]) -> Result<usize, TextRefusal> {
-        self.0.response.write(out)
+fn in_one<'a>(said: &str, field: &'a [u8]) -> Result<Outcome<'a>, Fault> {
+    match said {
+        "path" => Ok(Outcome::Path(field)),
+        "listing" => Ok(Outcome::Listing(field)),
+        "refused" => Ok(Outcome::Refused(field)),
+        _ => Err(Fault::Form),
     }
 }
 
-pub(crate) fn read_reply(heap: Global, text: &[u8]) -> Result<Answered, Fault> {
-    match Response::read(text) {
-        Ok(placed) => shown(heap, &PlacedReply(placed), text),
-        Err(wrong) => Ok(Answered::Wrong(wrong)),
+fn in_two<'a>(said: &str, size: u32, digest: &'a [u8]) -> Result<Outcome<'a>, Fault> {
+    match said {
+        "file" => Ok(Outcome::File { size, digest }),
+        _ => Err(Fault::Form),
     }
 }
 
-// A response that says it in no field.
-fn in_none<'a>(word: Word, request: &'a [u8], said: &str) -> Result<Response<'a>, Fault> {
-    let outcome = match said {
-        "done" => Outcome::Done,
-        _ => return Err(Fault::Form),
-    };
-    Ok(Response {
+fn response<'a>(word: Word, request: &'a [u8], outcome: Outcome<'a>) -> Response<'a> {
+    Response {
         word,
         request,
         outcome,
-    })
-}
-
-// A response that says it in one field.
-fn in_one<'a>(
-    word: Word,
-    request: &'a [u8],
-    said: &str,
-    field: &'a [u8],
-) -> Result<Response<'a>, Fault> {
-    let outcome = match said {
-        "path" => Outcome::Path(field),
-        "listing" => Outcome::Listing(field),
-        "refused" => Outcome::Refused(field),
-        _ => return Err(Fault::Form),
-    };
-    Ok(Response {
-        word,
-        request,
-        outcome,
-    })
-}
-
-// A response that says it in two fields.
-fn in_two<'a>(
-    word: Word,
-    request: &'a [u8],
-    said: &str,
-    size: u32,
-    digest: &'a [u8],
-) -> Result<Response<'a>, Fault> {
-    let outcome = match said {
-        "file" => Outcome::File { size, digest },
-        _ => return Err(Fault::Form),
-    };
-    Ok(Response {
-        word,
-        request,
-        outcome,
-    })
+    }
 }
 
 // The words are the command's word, a digest, and what is said.
-pub(crate) fn write_reply(heap: Global, room: &str, words: &[&str]) -> Result<Answered, Fault> {
+pub(crate) fn write_response(heap: Global, room: &str, words: &[&str]) -> Result<Answered, Fault> {
     let [word, request, said, rest @ ..] = words else {
         return Err(Fault::Count);
     };
-    let word = word_of(word)?;
+    let word = Word::try_from(word.as_bytes()).map_err(|_| Fault::Form)?;
     let request = bytes(heap, request)?;
     match rest {
-        [] => written(heap, room, &Reply(in_none(word, &request, said)?)),
+        [] => written(heap, room, &response(word, &request, in_none(said)?)),
         [field] => {
             let field = bytes(heap, field)?;
-            written(heap, room, &Reply(in_one(word, &request, said, &field)?))
+            written(heap, room, &response(word, &request, in_one(said, &field)?))
         }
         [size, digest] => {
             let size = number(size)?;
             let digest = bytes(heap, digest)?;
-            let response = in_two(word, &request, said, size, &digest)?;
-            written(heap, room, &Reply(response))
+            written(
+                heap,
+                room,
+                &response(word, &request, in_two(said, size, &digest)?),
+            )
         }
         _ => Err(Fault::Count),
     }

@@ -2,14 +2,23 @@
 use crate::answer::Answered;
 use crate::lent::Lent;
 use cases::Fault;
-use fields::TextRefusal;
-use octets::equal;
+use fields::{WriteText, WrongField};
 use std::alloc::Global;
 use std::fmt;
 
 // What a text says: it can be shown in words and written as its text.
-pub trait Text: fmt::Display {
-    fn put(&self, out: &mut [u8]) -> Result<usize, TextRefusal>;
+pub trait Text: WriteText {
+    fn show<W: fmt::Write>(&self, f: &mut fmt::Formatter<W>) -> fmt::Result;
+}
+
+// In words.
+#[derive(Drop)]
+pub struct Shown<'a, T: Text>(pub &'a T);
+
+impl<T: Text> fmt::Display for Shown<'_, T> {
+    fn fmt<W: fmt::Write>(&self, f: &mut fmt::Formatter<W>) -> fmt::Result {
+        self.0.show(f)
+    }
 }
 
 // Characters as they are.
@@ -19,7 +28,7 @@ pub struct Ascii<'a>(pub &'a [u8]);
 impl fmt::Display for Ascii<'_> {
     fn fmt<W: fmt::Write>(&self, f: &mut fmt::Formatter<W>) -> fmt::Result {
         for byte in self.0 {
-            f.write_char(*byte as char)?;
+            f.write_char(char::from(*byte))?;
         }
         Ok(())
     }
@@ -28,24 +37,30 @@ impl fmt::Display for Ascii<'_> {
 // Whether it is written, in as many bytes as the text has, as that text.
 fn is_written_as<T: Text>(heap: Global, said: &T, text: &[u8]) -> Result<bool, Fault> {
     let mut out = Lent::new(heap, text.len())?;
-    match said.put(&mut out.bytes) {
-        Ok(size) => Ok(size == text.len() && equal(&out.bytes, text)),
-        Err(_) => Ok(false),
-    }
+    let size = said.write(&mut out.bytes);
+    Ok(size == Ok(text.len()) && out.bytes.as_slice() == text)
 }
 
-// What a text was read as.
-pub(crate) fn shown<T: Text>(heap: Global, said: &T, text: &[u8]) -> Result<Answered, Fault> {
-    if !is_written_as(heap, said, text)? {
-        return Ok(Answered::NotWrittenBack);
+// What reading a text gave.
+pub(crate) fn told<T: Text + Drop>(
+    heap: Global,
+    text: &[u8],
+    read: Result<T, WrongField>,
+) -> Result<Answered, Fault> {
+    match read {
+        Err(wrong) => Ok(Answered::Wrong(wrong)),
+        Ok(said) if is_written_as(heap, &said, text)? => {
+            let shown = Shown(&said);
+            Ok(Answered::Read(format!(in heap; "{shown}")?))
+        }
+        Ok(_) => Ok(Answered::NotWrittenBack),
     }
-    Ok(Answered::Read(format!(in heap; "{said}")?))
 }
 
 // The text that is written, into a buffer of as many bytes as a word says.
 pub(crate) fn written<T: Text>(heap: Global, room: &str, said: &T) -> Result<Answered, Fault> {
     let mut out = Lent::sized(heap, room)?;
-    match said.put(&mut out.bytes) {
+    match said.write(&mut out.bytes) {
         Ok(size) => Ok(out.front(size)),
         Err(refusal) => Ok(out.unwritten(Answered::Refused(refusal))),
     }

@@ -2,20 +2,13 @@
 use crate::answer::Answered;
 use cases::{Fault, bytes, number};
 use causes::Cause;
+use numerals::Unsigned;
 use std::alloc::Global;
 
-// A number below 2^32.
-pub(crate) fn size(heap: Global, word: &str) -> Result<Answered, Fault> {
-    match numerals::decimal::<u32>(&bytes(heap, word)?) {
-        Some(n) => Ok(Answered::Number(u64::from(n))),
-        None => Ok(Answered::Nothing),
-    }
-}
-
-// A number below 2^64.
-pub(crate) fn stamp(heap: Global, word: &str) -> Result<Answered, Fault> {
-    match numerals::decimal::<u64>(&bytes(heap, word)?) {
-        Some(n) => Ok(Answered::Number(n)),
+// A number of the type N.
+pub(crate) fn decimal<N: Unsigned + Into<u64>>(heap: Global, word: &str) -> Result<Answered, Fault> {
+    match numerals::decimal::<N>(&bytes(heap, word)?) {
+        Some(n) => Ok(Answered::Number(n.into())),
         None => Ok(Answered::Nothing),
     }
 }
@@ -37,9 +30,7 @@ pub(crate) fn user(heap: Global, word: &str) -> Result<Answered, Fault> {
 
 // The words of the cause of a number.
 pub(crate) fn cause(heap: Global, word: &str) -> Result<Answered, Fault> {
-    let Ok(number) = u8::try_from(number(word)?) else {
-        return Err(Fault::Length(1));
-    };
+    let number = u8::try_from(number(word)?).map_err(|_| Fault::Length(1))?;
     match Cause::try_from(number) {
         Ok(cause) => Ok(Answered::Bytes(cause.word().to_vec(heap)?)),
         Err(_) => Ok(Answered::Nothing),
