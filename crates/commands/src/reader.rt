@@ -39,7 +39,7 @@ impl<'a> Command<'a> {
         ensures { shown meant result ≡ order_of text.now }
     {
         let (first, rest) = Fields::of(text).take(1)?;
-        let word = Word::try_from(first.bytes).map_err(|_| first.wrong(1))?;
+        let word = Word::try_from(first.bytes).or(Err(first.wrong(1)))?;
         match word {
             Word::Pwd => {
                 rest.end(2)?;

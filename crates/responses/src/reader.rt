@@ -85,7 +85,7 @@ fn granted<'a>(tells: Tells, fields: Fields<'a>) -> Result<Results<'a>, WrongFie
 fn word(first: &Field<'_>) -> Result<Word, WrongField>
     ensures { result ≡ must 1 (piece first.now) (word_of first.now.bytes.now) }
 {
-    Word::try_from(first.bytes).map_err(|_| first.wrong(1))
+    Word::try_from(first.bytes).or(Err(first.wrong(1)))
 }
 
 fn results<'a>(word: Word, status: Status, fields: Fields<'a>) -> Result<Results<'a>, WrongField>
