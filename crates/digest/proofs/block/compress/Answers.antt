@@ -1,4 +1,4 @@
-use Rattle.std.proofs.Common.{◌≡◌, ◌+◌, ◌*◌, refl, arith, lit≤, get_or, ◌∙◌, rules}
+use Rattle.std.proofs.Common.{◌+◌, ◌*◌, refl, arith, lit≤, get_or, ◌∙◌, rules}
 use Rattle.digest.specs.Sha256.{rounds, plus}
 use Rattle.digest.proofs.Made.{made}
 use Rattle.digest.proofs.Rounds.{Ahead, ahead_more, ahead_all, rounds-more, compress-all}
@@ -17,14 +17,6 @@ loop-i-preserved c =
     let a2 = ahead_more b s _ _ _ _ (t + 1) (t + 2) (t + 17) (omega arith) (omega arith) (omega arith) a1 c.round-v-in-loop-i.ensures c.extend-in-loop-i.ensures in
     let a3 = ahead_more b s _ _ _ _ (t + 2) (t + 3) (t + 18) (omega arith) (omega arith) (omega arith) a2 c.round-v-in-loop-i-2.ensures c.extend-in-loop-i-2.ensures in
     ahead_more b s _ _ _ _ (t + 3) _ (t + 19) (omega arith) (omega arith) (omega arith) a3 c.round-v-in-loop-i-3.ensures c.extend-in-loop-i-3.ensures
-
-pub loop-i-2-init : goal.loop-i-2-init
-loop-i-2-init c =
-    let b = c.args.block.now in
-    let s = c.args.state.now in
-    let a : Ahead b s (4 * c.loop-i.i) c.loop-i.w c.loop-i.v = c.loop-i.invariant in
-    let t : 4 * c.loop-i.i ≡ 48 = omega arith in
-    rw (ahead_all b s c.loop-i.w c.loop-i.v (4 * c.loop-i.i) t a) (rw t at a.2)
 
 pub loop-i-2-preserved : goal.loop-i-2-preserved
 loop-i-2-preserved c =
