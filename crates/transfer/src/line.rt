@@ -9,9 +9,9 @@ use octets::equal;
 // A seal that both ends have, and the buffer that each of them lends.
 #[derive(Drop)]
 pub struct Line<'a, S> {
-    seal: &'a S,
-    message: [u8; 4124],
-    pub(crate) text: [u8; 4096],
+    pub seal: &'a S,
+    pub message: [u8; 4124],
+    pub text: [u8; 4096],
 }
 
 // What the host takes from its source of randomness; here fixed, so that the program always writes the same.
@@ -25,15 +25,7 @@ fn kind_of(last: bool) -> Kind {
     }
 }
 
-impl<'a, S: Seal> Line<'a, S> {
-    pub fn new(seal: &'a S) -> Line<'a, S> {
-        Line {
-            seal,
-            message: [0; 4124],
-            text: [0; 4096],
-        }
-    }
-
+impl<S: Seal> Line<'_, S> {
     // Seals a fragment into a message of that number and opens it again: what stands at the text's front is then the fragment.
     // Answers the message's size.
     pub fn pass(&mut self, number: u16, last: bool, part: &[u8]) -> Result<usize, Failure>

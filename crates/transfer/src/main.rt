@@ -77,7 +77,12 @@ fn carry_under<S: Seal>(
     announcement: &Announcement,
 ) -> anyhow::Result<()> {
     let mut receiver = Receiver::new(rt.alloc(), announcement.size, announcement.digest);
-    carry_all(rt, &mut Line::new(seal), scan, &mut receiver)?;
+    let mut line = Line {
+        seal,
+        message: [0; 4124],
+        text: [0; 4096],
+    };
+    carry_all(rt, &mut line, scan, &mut receiver)?;
     report(rt, announcement, &receiver.bytes)
 }
 
