@@ -1,13 +1,12 @@
 -- What the parts of encoding and decoding pass to each other.
-use Rattle.std.specs.Prelude.{ℕ, ◌<◌, List, [], ◌∷◌, length, Some, None, Option}
+use Rattle.std.specs.Prelude.{ℕ, List, [], ◌∷◌, length, Option, option_map}
 use Rattle.base64_text.specs.declared.decoding.Group.{Group}
 use Rattle.base64_text.specs.declared.decoding.Group.TheVariants.{One, Two, Three}
 use Rattle.base64_text.specs.Base64.{one, two, three}
 
 -- How many bytes there are, where there are some.
 abbrev pub counted : Option (List ℕ) → Option ℕ
-counted None = None
-counted (Some xs) = Some (length xs)
+counted bytes = option_map length bytes
 
 -- The four letters of the first three bytes, or of fewer.
 abbrev pub quad : List ℕ → List ℕ
@@ -21,8 +20,3 @@ abbrev pub held : Group → List ℕ
 held (One bs) = bs
 held (Two bs) = bs
 held (Three bs) = bs
-
--- A letter's number has six bits.
-abbrev pub SixBits : Option ℕ → Type 0
-SixBits None = Unit {0}
-SixBits (Some n) = n < 64

@@ -1,7 +1,6 @@
 // The 64 letters and their numbers.
-ghost use Rattle.std.specs.Prelude.{◌≡◌, ◌<◌};
+ghost use Rattle.std.specs.Prelude.{◌≡◌, ◌<◌, IfSome};
 ghost use Rattle.base64_text.specs.Base64.{letter, value};
-ghost use Rattle.base64_text.specs.Groups.{SixBits};
 
 pub(crate) fn letter_of(n: u8) -> u8
     requires { n < 64 }
@@ -18,7 +17,7 @@ pub(crate) fn letter_of(n: u8) -> u8
 
 pub(crate) fn value_of(c: u8) -> Option<u8>
     ensures value { result ≡ value c }
-    ensures small { SixBits result }
+    ensures small { IfSome result (λ n. n < 64) }
 {
     match c {
         b'A'..=b'Z' => Some(c - b'A'),

@@ -7,9 +7,6 @@ use Rattle.base64_text.proofs.decoding.write_bytes.Goals as goal
 pub returns-in_default : goal.returns-in_default
 returns-in_default c = nothing c.args.text.now c.args.out.now (sym c.as_chunks.ensures.front_len ∙ c.in_default.ensures.cases) c.requires
 
-pub loop-i-init : goal.loop-i-init
-loop-i-init c = left-found (decode c.args.text.now) c.args.out.now c.requires
-
 pub unreachable-requires : goal.unreachable-requires
 unreachable-requires c =
     let t = c.args.text.now in
