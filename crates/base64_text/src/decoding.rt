@@ -33,6 +33,7 @@ impl Group {
     }
 }
 
+// Three functions and none over a count of letters, since each count has its own rule for the bits that are left over.
 fn one_byte(a: u8, b: u8) -> Option<[u8; 1]>
     ensures { result ≡ one_byte (value a) (value b) }
 {
