@@ -96,7 +96,10 @@ fn upload_accepted(rt: &impl Print, request: &[u8], buffer: &mut [u8]) -> Result
     let read = Response::read(text)?;
     let place = read.places.status;
     let status = Shown(read.response.status().text());
-    println!(rt; "  read back: {status}, from byte {} to {}", place.start, place.end)?;
+    println!(rt;
+        "  read back: {status}, from byte {} to {}",
+        place.start, place.end
+    )?;
     told(
         rt,
         equal(read.response.request, request),

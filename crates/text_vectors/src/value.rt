@@ -6,7 +6,10 @@ use numerals::Unsigned;
 use std::alloc::Global;
 
 // A number of the type N.
-pub(crate) fn decimal<N: Unsigned + Into<u64>>(heap: Global, word: &str) -> Result<Answered, Fault> {
+pub(crate) fn decimal<N: Unsigned + Into<u64>>(
+    heap: Global,
+    word: &str,
+) -> Result<Answered, Fault> {
     match numerals::decimal::<N>(&bytes(heap, word)?) {
         Some(n) => Ok(Answered::Number(n.into())),
         None => Ok(Answered::Nothing),
