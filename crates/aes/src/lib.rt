@@ -12,7 +12,7 @@ mod state;
 use key::expanded;
 use state::{begun, joined, last_round, mixing_rounds};
 
-// A key made ready: its 60 words.
+// A key made ready: its 60 words. Seen through `under` and not by a model, since no view that is a cipher can be turned back into words.
 #[derive(Clone, Copy)]
 pub struct Aes256 {
     words: [u32; 60],

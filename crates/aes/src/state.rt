@@ -74,6 +74,7 @@ pub(crate) fn mixing_rounds(words: &[u32; 60], s: State) -> State
     keys[1..14].iter().fold(s, |t, key| one_round(key, t))
 }
 
+// Not one function with the rounds that mix: a column as a parameter would need its contract said there once more.
 pub(crate) fn last_round(words: &[u32; 60], s: State) -> State
     ensures { result ≡ last_round words.now s }
 {

@@ -90,7 +90,7 @@ impl TryFrom<u8> for Cause {
     }
 }
 
-// The cause that some words say.
+// The cause that some words say: by the chain that finds a command's word too, which is shorter than a trait that both could share.
 impl TryFrom<&[u8]> for Cause {
     type Error = UnknownWords;
 

@@ -14,7 +14,8 @@ pub struct Field<'a> {
     pub bytes: &'a [u8],
 }
 
-// The fields of a text from a place on; none is left where there is no place.
+// The fields of a text from a place on; none is left where there is no place. A place and no rest of the text, since a missing field
+// is wrong where the text ends.
 #[derive(Clone, Copy, PartialEq, Eq, Debug)]
 pub struct Fields<'a> {
     pub(crate) text: &'a [u8],

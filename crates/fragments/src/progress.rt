@@ -7,6 +7,7 @@ use crate::rule::fits;
 use digest::Hasher;
 use octets::equal;
 
+// Seen through `standing` and not by a model, as its hasher is.
 #[derive(Clone, Copy)]
 pub struct Progress {
     so_far: u32,

@@ -31,7 +31,8 @@ impl Gcm {
         Gcm { aes, hash }
     }
 
-    // Encrypts the text in place, and answers its tag.
+    // Encrypts the text in place, and answers its tag. IV and additional data go in apart, as in the standard: a struct of both would be
+    // made for one call and taken apart in it.
     pub fn encrypt(&self, iv: &[u8; 12], added: &[u8], text: &mut [u8]) -> [u8; 12]
         ensures body { text.new ≡ encrypted (under self.now.aes) iv.now text.old }
         ensures tag { result ≡ tag_of (under self.now.aes) iv.now added.now text.new }

@@ -5,7 +5,7 @@ ghost use Rattle.kinds.specs.Kinds.{found, numbered};
 use crate::kind::Kind;
 use crate::refusal::MessageRefusal;
 
-// The type check: the kind among the expected ones whose code it is.
+// The type check: the kind among the expected ones whose code it is. By code, since that of no kind is refused here too.
 pub fn check_kind(expected: &[Kind], code: u16) -> Result<Kind, MessageRefusal>
     ensures { result ≡ found expected.now code }
 {

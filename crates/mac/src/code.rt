@@ -7,6 +7,7 @@ ghost use Rattle.mac.specs.Parts.{joined};
 use crate::key::{key_block, masked};
 use digest::Hasher;
 
+// Seen through `coding` and not by a model, as its hashers are.
 #[derive(Clone, Copy)]
 pub struct Hmac {
     inner: Hasher,

@@ -58,7 +58,8 @@ impl Outgoing<'_> {
     }
 }
 
-// What follows the tag of a log-in request.
+// What follows the tag of a log-in request: not one function with the seals' additional data, since no length of an array can be worked
+// out of two others.
 pub fn log_in_trailer(public_key: &[u8; 91], session: &[u8; 16]) -> [u8; 107]
     ensures { result ≡ public_key.now ++ session.now }
 {

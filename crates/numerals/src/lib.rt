@@ -45,7 +45,8 @@ pub fn decimal<N: Unsigned>(text: &[u8]) -> Option<N>
     Some(N::of(read_up_to(text, N::LARGEST)?))
 }
 
-// Writes a number at the front of `out`, whose rest stays, and answers how many digits it has.
+// Writes a number at the front of `out`, whose rest stays, and answers how many digits it has: a buffer and its length, since nothing here
+// allocates; `Decimal` holds both.
 pub fn write_decimal(n: u64, out: &mut [u8; 20]) -> usize
     ensures value { result ≡ length (decimal n) }
     ensures after { out.new ≡ at_front (decimal n) out.old }

@@ -44,7 +44,7 @@ impl WriteText for GoAhead {
     }
 }
 
-// The go-ahead that a field is, if it is one.
+// The go-ahead that a field is, if it is one: no conversion, since callers have `read`.
 fn of(field: &[u8]) -> Option<GoAhead>
     ensures { result ≡ signal field.now }
 {

@@ -92,7 +92,7 @@ fn results<'a>(word: Word, status: Status, fields: Fields<'a>) -> Result<Results
     ensures { shown told result ≡ told_of (grants status) word (ending fields.entry) (left fields.entry) }
 {
     if status.grants() {
-        granted(Tells::of(word), fields)
+        granted(Tells::from(word), fields)
     } else {
         let field = one_field(fields)?;
         Ok(Results::one(Outcome::Refused(field.bytes), field))

@@ -36,7 +36,7 @@ impl Response<'_> {
     fn is_formed(&self) -> bool
         ensures { result ≡ formed (meant self.now) }
     {
-        numerals::digest(self.request).is_some() && does_suit(Tells::of(self.word), &self.outcome)
+        numerals::digest(self.request).is_some() && does_suit(Tells::from(self.word), &self.outcome)
     }
 }
 

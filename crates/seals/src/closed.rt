@@ -37,7 +37,7 @@ impl ClosedSeal {
         ]
     }
 
-    // Header and session ID, the additional data.
+    // Header and session ID, the additional data; its length is no sum that a type could name, so the trailer of a log-in is made apart.
     fn added(&self, header: &[u8; 16]) -> [u8; 32]
         ensures { result ≡ header.now ++ self.now.session }
     {

@@ -26,6 +26,7 @@ fn yes_or_no(truth: bool) -> &'static str {
     if truth { "yes" } else { "no" }
 }
 
+// The error is another crate's, and has no `Display`.
 fn reason(undecoded: Undecoded) -> &'static str {
     match undecoded {
         Undecoded::NotCanonical => "not canonical",

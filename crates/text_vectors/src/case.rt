@@ -6,7 +6,7 @@ use crate::value::{cause, cause_word, decimal, digest, name, user};
 use cases::{Answer, Fault};
 use std::alloc::Global;
 
-// A form that takes one word.
+// A form that takes one word: by name, since a table of functions would list the same names and say no more.
 fn of_one(heap: Global, form: &str, word: &str) -> Result<Answered, Fault> {
     match form {
         "decimal32" => decimal::<u32>(heap, word),

@@ -37,6 +37,7 @@ impl FromStr for Kind {
     }
 }
 
+// What can be done with each, by a match for each: a type parameter would need the kind before it is read.
 impl Kind {
     fn read(self, heap: Global, text: &[u8]) -> Result<Answered, Fault> {
         match self {

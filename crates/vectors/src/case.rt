@@ -83,6 +83,7 @@ fn derived(heap: Global, words: &[&str]) -> Result<Answered, Fault> {
     pbkdf2(&every(heap, parts)?, rounds)
 }
 
+// By name, since a table of functions would list the same names and say no more.
 fn by_form(heap: Global, form: &str, words: &[&str]) -> Result<Answered, Fault> {
     match form {
         "sha256" => sha256(&every(heap, words)?),

@@ -46,7 +46,7 @@ impl Status {
         }
     }
 
-    // The status that refuses it.
+    // The status that refuses it: apart from the one that grants, since a flag that says which is no plainer than two names.
     pub fn refusing(word: Word) -> Status
         ensures { result ≡ refusing word }
     {
@@ -75,11 +75,11 @@ impl Status {
     }
 }
 
-impl Tells {
-    // What is told of a command.
-    pub fn of(word: Word) -> Tells
-        ensures { result ≡ tells word }
-    {
+// What is told of a command.
+impl From<Word> for Tells {
+    ghost from_gives = { λ word told. told ≡ tells word };
+
+    fn from(word: Word) -> Tells {
         match word {
             Word::Pwd => Tells::Path,
             Word::Lst => Tells::Listing,

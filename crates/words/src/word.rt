@@ -46,7 +46,7 @@ impl Word {
     }
 }
 
-// The word that a field is.
+// The word that a field is: by the chain that finds a cause too, which is shorter than a trait that both could share.
 impl TryFrom<&[u8]> for Word {
     type Error = UnknownWord;
 
