@@ -42,7 +42,7 @@ pub fn digest(text: &[u8]) -> Option<[u8; 32]>
 pub fn decimal<N: Unsigned>(text: &[u8]) -> Option<N>
     ensures { result ≡ decimal_as N.of (N.LARGEST + 1) text.now }
 {
-    Some(N::of(read_up_to(text, N::LARGEST)?))
+    N::of(read_up_to(text, N::LARGEST)?)
 }
 
 // Writes a number at the front of `out`, whose rest stays, and answers how many digits it has: a buffer and its length, since nothing here

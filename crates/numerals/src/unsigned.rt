@@ -1,5 +1,5 @@
 // The types as whose numbers decimals are read.
-ghost use Rattle.std.specs.Prelude.{◌≡◌, ℕ, ◌≤◌};
+ghost use Rattle.std.specs.Prelude.{◌≡◌, ℕ, if◌then◌else◌, Some, None, nat_le};
 
 pub trait Unsigned: Sized {
     // Its largest number.
@@ -10,9 +10,9 @@ pub trait Unsigned: Sized {
     // A number of that type.
     ghost of: { ℕ → Self };
 
-    fn of(n: u64) -> Self
-        requires { n ≤ LARGEST }
-        ensures { result ≡ of n };
+    // The number as one of that type, if it has it.
+    fn of(n: u64) -> Option<Self>
+        ensures { result ≡ (if nat_le n LARGEST then Some (of n) else None) };
 }
 
 impl Unsigned for u32 {
@@ -22,8 +22,8 @@ impl Unsigned for u32 {
 
     ghost of = { λ n. n };
 
-    fn of(n: u64) -> u32 {
-        n as u32
+    fn of(n: u64) -> Option<u32> {
+        u32::try_from(n).ok()
     }
 }
 
@@ -34,7 +34,7 @@ impl Unsigned for u64 {
 
     ghost of = { λ n. n };
 
-    fn of(n: u64) -> u64 {
-        n
+    fn of(n: u64) -> Option<u64> {
+        Some(n)
     }
 }
