@@ -50,7 +50,7 @@ impl Cause {
         self as u8
     }
 
-    // The words that say it.
+    // The words that say it, as the bytes of a field.
     pub fn word(self) -> &'static [u8]
         ensures { word self ≡ result.now }
     {

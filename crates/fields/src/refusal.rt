@@ -17,7 +17,7 @@ impl WrongField {
         WrongField { field, place }
     }
 
-    // The number under which both ends give this refusal.
+    // The number under which both ends give this refusal, the only one of a wrong field.
     pub fn number(&self) -> u8
         ensures { result ≡ wrong_number self.now }
     {

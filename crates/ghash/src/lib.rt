@@ -1,4 +1,5 @@
 // Multiplication by a fixed block in GF(2^128) (SP 800-38D, section 6.3), by 32 rows of 16 products.
+// Public functions are thin over private ones that promise the same, so that an edit of one changes one call.
 #![tactic(auto)]
 
 ghost use Rattle.std.specs.Prelude.{◌≡◌};

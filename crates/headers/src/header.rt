@@ -13,7 +13,7 @@ pub struct Header {
     pub random: [u8; 6],
 }
 
-// 28 to 4,124 bytes, a log-in request at least 135, and as many as the field says.
+// 28 to 4,124 bytes, a log-in request, which is told by its code alone, at least 135, and as many as the field says.
 fn length_fits(size: usize, code: u16, told: u16) -> bool
     ensures { result ≡ length_fits size code told }
 {

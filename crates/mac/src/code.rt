@@ -1,4 +1,5 @@
 // An authentication code under way: `update` takes the message in pieces of any length, `finish` gives its code.
+// Public functions are thin over private ones that promise the same, so that an edit of one changes one call.
 ghost use Rattle.std.specs.Prelude.{◌≡◌, ℕ, List, [], ◌++◌};
 ghost use Rattle.mac.specs.Codes.{coding, keyed, take_in, code, Authenticates};
 ghost use Rattle.mac.specs.Hmac.{hmac};

@@ -1,4 +1,5 @@
 // HMAC-SHA-256 (RFC 2104), and PBKDF2 (RFC 8018) over it.
+// Public functions are thin over private ones that promise the same, so that an edit of one changes one call.
 #![tactic(auto)]
 
 ghost use Rattle.std.specs.Prelude.{◌≡◌};

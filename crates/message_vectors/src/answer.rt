@@ -20,7 +20,7 @@ pub enum Answered {
     Touched(&'static str),
 }
 
-// Whether a buffer is as it was from a place on.
+// Whether a buffer is as it was from a place on: one line, which the other case program that lends buffers has over a byte of its own.
 pub(crate) fn untouched(buffer: &[u8], from: usize) -> bool {
     buffer.iter().skip(from).all(|&byte| byte == FILL)
 }

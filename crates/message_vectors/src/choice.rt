@@ -26,6 +26,7 @@ pub(crate) fn under<C: Sealed>(
     }
 }
 
+// Functions and no conversions, since the bytes of a word need the heap.
 pub(crate) fn kind_of(heap: Global, word: &str) -> Result<Kind, Fault> {
     let code = u16::from_be_bytes(array(heap, word)?);
     Kind::try_from(code).map_err(|_| Fault::Form)

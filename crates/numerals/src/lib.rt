@@ -1,4 +1,5 @@
 // Numbers and digests as text: hexadecimal digests read, decimals read and written.
+// Public functions are thin over private ones that promise the same, so that an edit of one changes one call.
 #![tactic(auto)]
 
 ghost use Rattle.std.specs.Prelude.{◌≡◌, ◌+◌, ◌<◌, ◌≤◌, length, take, IfSome, decimal};

@@ -1,4 +1,5 @@
 // What every layer does with plain bytes: compares them without an early exit, and shows a digest as text.
+// Public functions are thin over private ones that promise the same, so that an edit of one changes one call.
 #![tactic(auto)]
 
 ghost use Rattle.std.specs.Prelude.{◌≡◌, Decides};

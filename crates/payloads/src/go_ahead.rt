@@ -24,6 +24,7 @@ impl GoAhead {
         Ok(go_ahead)
     }
 
+    // Its text, as the bytes of a field.
     fn text(self) -> &'static [u8]
         ensures { result.now ≡ signal_text self }
     {

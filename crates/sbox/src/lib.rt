@@ -1,4 +1,5 @@
 // The S-box of AES (FIPS 197) as a table, and its rule at every entry.
+// Public functions are thin over private ones that promise the same, so that an edit of one changes one call.
 #![tactic(auto)]
 
 ghost use Rattle.std.specs.Prelude.{◌≡◌};

@@ -22,6 +22,7 @@ pub enum Answered {
     Touched,
 }
 
+// A truth prints otherwise by itself.
 fn yes_or_no(truth: bool) -> &'static str {
     if truth { "yes" } else { "no" }
 }

@@ -70,7 +70,7 @@ pub(crate) fn read(heap: Global, words: &[&str]) -> Result<Answered, Fault> {
     kind.parse::<Kind>()?.read(heap, &bytes(heap, text)?)
 }
 
-// The words are a kind, the size of the buffer, and what is to be written.
+// The words are a kind, the size of the buffer, and what is to be written. The size goes on as a word, since the first wrong word is told.
 pub(crate) fn write(heap: Global, words: &[&str]) -> Result<Answered, Fault> {
     let [kind, room, values @ ..] = words else {
         return Err(Fault::Count);

@@ -22,7 +22,7 @@ impl Lent {
         Lent::new(heap, number(word)? as usize)
     }
 
-    // Whether it is as it was from a place on.
+    // Whether it is as it was from a place on: one line, which the other case program that lends buffers has over a byte of its own.
     fn is_untouched(&self, from: usize) -> bool {
         self.bytes.iter().skip(from).all(|byte| *byte == FILL)
     }

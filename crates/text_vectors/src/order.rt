@@ -21,6 +21,7 @@ impl Text for Command<'_> {
     }
 }
 
+// By the number of words, which no conversion of one word would know.
 fn unnamed(word: &str) -> Result<Command<'static>, Fault> {
     match word {
         "pwd" => Ok(Command::Pwd),

@@ -24,7 +24,7 @@ pub enum Tells {
 }
 
 impl Status {
-    // Its text.
+    // Its text, as the bytes of a field.
     pub fn text(self) -> &'static [u8]
         ensures { result.now ≡ status_text self }
     {
