@@ -23,7 +23,7 @@ fn of_one(heap: Global, form: &str, word: &str) -> Result<Answered, Fault> {
     }
 }
 
-// A form that takes the size of a buffer and one word.
+// A form that takes the size of a buffer and one word, by name too.
 fn of_two(heap: Global, form: &str, room: &str, word: &str) -> Result<Answered, Fault> {
     match form {
         "encode-in" => encode_in(heap, room, word),
