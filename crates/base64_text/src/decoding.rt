@@ -105,6 +105,7 @@ pub(crate) fn write_bytes(text: &[u8], out: &mut [u8])
     let Some(([a, b, c, d], front)) = quads.split_last() else {
         return;
     };
+    // into places of the buffer, since of chunks that are lent for writing the library says their length alone
     for (i, [a, b, c, d]) in front.iter().enumerate() {
         let Some(bytes) = three_bytes(*a, *b, *c, *d) else {
             unreachable!();

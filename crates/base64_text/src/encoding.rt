@@ -40,6 +40,7 @@ pub(crate) fn write_text(bytes: &[u8], out: &mut [u8])
     requires { length (encode bytes.now) ≤ length out.old }
     ensures { out.new ≡ at_front (encode bytes.now) out.old }
 {
+    // into places of the buffer, since of chunks that are lent for writing the library says their length alone
     for (i, part) in bytes.chunks(3).enumerate() {
         out[4 * i..4 * i + 4].copy_from_slice(&quad_of(part));
     }

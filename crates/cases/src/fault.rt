@@ -3,17 +3,25 @@ ghost use Rattle.std.specs.Prelude.{◌≡◌};
 ghost use Rattle.cases.specs.declared.fault.Fault.TheVariants.{Memory};
 
 use std::alloc::{AllocError, AllocFailed};
-use std::fmt;
+use thiserror::Error;
 
-#[derive(Clone, Copy, PartialEq, Eq, Debug)]
+#[derive(Clone, Copy, PartialEq, Eq, Debug, Error)]
 pub enum Fault {
+    #[error("no such form")]
     Form,
+    #[error("wrong number of words for this form")]
     Count,
+    #[error("an empty word (the empty string is written -)")]
     Empty,
+    #[error("an odd number of hexadecimal digits")]
     Odd,
+    #[error("byte {0} is no lower-case hexadecimal digit")]
     Digit(u8),
+    #[error("not {0} bytes")]
     Length(usize),
+    #[error("no number below 4294967296")]
     Number,
+    #[error("no memory")]
     Memory,
 }
 
@@ -31,20 +39,5 @@ impl<T: Drop> From<AllocFailed<T>> for Fault {
 
     fn from(_e: AllocFailed<T>) -> Fault {
         Fault::Memory
-    }
-}
-
-impl fmt::Display for Fault {
-    fn fmt<W: fmt::Write>(&self, f: &mut fmt::Formatter<W>) -> fmt::Result {
-        match self {
-            Fault::Form => write!(f, "no such form"),
-            Fault::Count => write!(f, "wrong number of words for this form"),
-            Fault::Empty => write!(f, "an empty word (the empty string is written -)"),
-            Fault::Odd => write!(f, "an odd number of hexadecimal digits"),
-            Fault::Digit(byte) => write!(f, "byte {byte} is no lower-case hexadecimal digit"),
-            Fault::Length(due) => write!(f, "not {due} bytes"),
-            Fault::Number => write!(f, "no number below 4294967296"),
-            Fault::Memory => write!(f, "no memory"),
-        }
     }
 }

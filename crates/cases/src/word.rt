@@ -7,7 +7,7 @@ ghost use Rattle.std.specs.Str.Parse.{ParsesUnsigned};
 use crate::fault::Fault;
 use std::alloc::Global;
 
-// Not the one of `numerals`: a program that tests the texts does not read its cases by the crate under test.
+// Not the one of `numerals`, whose `digit` takes a character: the crate of all case programs would stand on one of texts for three lines.
 fn digit(b: u8) -> Option<u8>
     ensures { result ≡ digit b }
 {

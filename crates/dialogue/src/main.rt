@@ -6,16 +6,16 @@ mod shown;
 mod text_failure;
 mod texts;
 
-use anyhow::anyhow;
+use anyhow::Context;
 use std::fs;
 
 const NAME: &str = "reel7.pgm";
 
 fn run(rt: &HostRuntime) -> anyhow::Result<()> {
     let scan = fs::read(rt, NAME)?;
-    let Ok(size) = u32::try_from(scan.len()) else {
-        return Err(anyhow!("the file is too long for one upload"));
-    };
+    let size = u32::try_from(scan.len())
+        .ok()
+        .context("the file is too long for one upload")?;
     let mut text = [0u8; 4096];
     texts::log_in(rt, &mut text)?;
     texts::upload(rt, NAME.as_bytes(), &scan, size, &mut text)?;

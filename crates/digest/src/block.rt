@@ -127,6 +127,7 @@ pub(crate) fn compress(state: &mut [u32; 8], block: &[u8; 64])
         v = round(v, &w, t + 3);
         extend(&mut w, t + 19);
     }
+    // by four as before, by index since the schedule is read and the rounds counted by it
     for i in 12..16 {
         let t = 4 * i;
         v = round(v, &w, t);
@@ -142,6 +143,7 @@ pub(crate) fn output(state: &[u32; 8]) -> [u8; 32]
     ensures { result ≡ output state.now }
 {
     let mut bytes = [0u8; 32];
+    // into places of the array, since of chunks that are lent for writing the library says their length alone
     for (i, word) in state.iter().enumerate() {
         bytes[4 * i..4 * i + 4].copy_from_slice(&word.to_be_bytes());
     }

@@ -10,7 +10,7 @@ pub struct Place {
 // A field: where it stands in its text, and its bytes.
 #[derive(Clone, Copy, PartialEq, Eq, Debug)]
 pub struct Field<'a> {
-    pub(crate) place: Place,
+    pub place: Place,
     pub bytes: &'a [u8],
 }
 

@@ -60,7 +60,7 @@ impl Gcm {
         Ok(())
     }
 
-    // Decrypts the body into the front of the text where the tag is the body's own and the text has room; else leaves
+    // Decrypts the body (its own clause on the text, as in `Seal::open`, which stands above and knows no GCM) into the front of the text where the tag is the body's own and the text has room; else leaves
     // the text as it is.
     pub fn decrypt_to(
         &self,

@@ -31,6 +31,7 @@ fn decrypt(heap: Global, words: &[&str]) -> Result<Answered, Fault> {
     }
 }
 
+// By name, since a table of functions would list the same names and say no more.
 impl Answer for Answered {
     fn of_line(heap: Global, line: &str) -> Result<Answered, Fault> {
         let words: Vec<&str> = line.split(' ').collect(heap)?;

@@ -1,5 +1,4 @@
 // Multiplication by a fixed block in GF(2^128) (SP 800-38D, section 6.3), by 32 rows of 16 products.
-// Public functions are thin over private ones that promise the same, so that an edit of one changes one call.
 #![tactic(auto)]
 
 ghost use Rattle.std.specs.Prelude.{◌≡◌};
@@ -26,15 +25,8 @@ impl Multiplier {
         Multiplier { h, rows }
     }
 
-    // The product of y and h.
+    // The product of y and h: the sum of the products of each nibble of y, the lowest first, whose place is the last.
     pub fn times(&self, y: u128) -> u128
-        ensures { result ≡ product y self.now.h }
-    {
-        self.gathered(y)
-    }
-
-    // The sum of the products of each nibble of y, the lowest first, whose place is the last.
-    fn gathered(&self, y: u128) -> u128
         ensures { result ≡ product y self.now.h }
     {
         let mut z = 0u128;

@@ -4,7 +4,7 @@ ghost use Rattle.headers.specs.Headers.{headed, header_bytes, length_fits};
 
 use kinds::{Kind, MessageRefusal};
 
-#[derive(Clone, Copy)]
+#[derive(Clone, Copy, PartialEq, Eq, Debug)]
 pub struct Header {
     // a number and no kind: a code of no kind passes here, and fails at the type check
     pub code: u16,

@@ -1,5 +1,4 @@
 // An authentication code under way: `update` takes the message in pieces of any length, `finish` gives its code.
-// Public functions are thin over private ones that promise the same, so that an edit of one changes one call.
 ghost use Rattle.std.specs.Prelude.{◌≡◌, ℕ, List, [], ◌++◌};
 ghost use Rattle.mac.specs.Codes.{coding, keyed, take_in, code, Authenticates};
 ghost use Rattle.mac.specs.Hmac.{hmac};
@@ -21,27 +20,6 @@ impl Hmac {
         ensures value { coding result ≡ keyed key.now }
         ensures law { Authenticates result key.now [] }
     {
-        Hmac::under(key)
-    }
-
-    pub fn update(&mut self, piece: &[u8])
-        ensures after { coding self.new ≡ take_in (coding self.old) piece.now }
-        ensures law { (k m : List ℕ) → Authenticates self.old k m → Authenticates self.new k (m ++ piece.now) }
-    {
-        self.take_in(piece);
-    }
-
-    pub fn finish(self) -> [u8; 32]
-        ensures value { result ≡ code (coding self) }
-        ensures law { (k m : List ℕ) → Authenticates self k m → result ≡ hmac k m }
-    {
-        self.complete()
-    }
-
-    fn under(key: &[u8]) -> Hmac
-        ensures value { coding result ≡ keyed key.now }
-        ensures law { Authenticates result key.now [] }
-    {
         let block = key_block(key);
         let mut inner = Hasher::new();
         inner.update(&masked(&block, 0x36));
@@ -50,14 +28,14 @@ impl Hmac {
         Hmac { inner, outer }
     }
 
-    fn take_in(&mut self, piece: &[u8])
+    pub fn update(&mut self, piece: &[u8])
         ensures after { coding self.new ≡ take_in (coding self.old) piece.now }
         ensures law { (k m : List ℕ) → Authenticates self.old k m → Authenticates self.new k (m ++ piece.now) }
     {
         self.inner.update(piece);
     }
 
-    fn complete(self) -> [u8; 32]
+    pub fn finish(self) -> [u8; 32]
         ensures value { result ≡ code (coding self) }
         ensures law { (k m : List ℕ) → Authenticates self k m → result ≡ hmac k m }
     {
@@ -71,7 +49,7 @@ impl Hmac {
         ensures { (k m : List ℕ) → Authenticates self.old k m → Authenticates self.new k (m ++ joined parts.now) }
     {
         for part in parts {
-            self.take_in(part);
+            self.update(part);
         }
     }
 }

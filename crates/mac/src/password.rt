@@ -7,12 +7,14 @@ use crate::code::Hmac;
 fn xor_into(sum: &mut [u8; 32], by: &[u8; 32])
     ensures { sum.new ≡ xors sum.old by.now }
 {
+    // into places of the array, since of a zip that writes the library says the length alone
     for (i, byte) in by.iter().enumerate() {
         sum[i] ^= *byte;
     }
 }
 
-pub(crate) fn derive(password: &[u8], salt: &[u8], rounds: u32) -> [u8; 32]
+// The key of 32 bytes derived from a password in that many rounds; 0 rounds count as 1.
+pub fn pbkdf2(password: &[u8], salt: &[u8], rounds: u32) -> [u8; 32]
     ensures { result ≡ pbkdf2 password.now salt.now rounds }
 {
     let keyed = Hmac::new(password);

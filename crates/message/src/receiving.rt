@@ -10,7 +10,7 @@ pub(crate) struct Admitted {
 }
 
 // Opened: kind, number, and the length of the payload, which stands at the front of the text.
-#[derive(Clone, Copy)]
+#[derive(Clone, Copy, PartialEq, Eq, Debug)]
 pub struct Received {
     pub kind: Kind,
     pub number: u16,

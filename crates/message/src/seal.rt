@@ -10,6 +10,7 @@ use kinds::MessageRefusal;
 #[derive(Clone, Copy, PartialEq, Eq, Debug)]
 pub struct Unopened;
 
+// By hand, since contracts name the refusal that a `?` makes of it.
 impl From<Unopened> for MessageRefusal {
     ghost from_gives = { λ _ r. r ≡ Unopened };
 
@@ -28,7 +29,8 @@ pub trait Seal {
         ensures body { payload.new ≡ (sealing self.now header.now payload.old).0 }
         ensures tag { result ≡ (sealing self.now header.now payload.old).1 };
 
-    // Opens a body, and puts the payload at the front of the text; the text is untouched where it does not open or has no room.
+    // Opens a body (header, body and tag as they come in a message, which a struct would only take apart again), and puts the payload at
+    // the front of the text; the text is untouched where it does not open or has no room.
     fn open(
         &self,
         header: &[u8; 16],

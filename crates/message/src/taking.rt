@@ -10,7 +10,7 @@ use headers::Header;
 use kinds::{Kind, MessageRefusal, check_kind, check_number, trailer};
 
 // What is expected: these kinds, after the last accepted number.
-#[derive(Clone, Copy)]
+#[derive(Clone, Copy, PartialEq, Eq, Debug)]
 pub struct Awaited<'a> {
     pub kinds: &'a [Kind],
     pub last: u16,

@@ -7,7 +7,7 @@ use headers::Header;
 use kinds::{Kind, MessageRefusal};
 
 // A message to be written. What comes after the tag is for a log-in request alone.
-#[derive(Clone, Copy)]
+#[derive(Clone, Copy, PartialEq, Eq, Debug)]
 pub struct Outgoing<'a> {
     pub kind: Kind,
     pub number: u16,

@@ -5,6 +5,7 @@ use crate::writing::written;
 use cases::{Answer, Fault};
 use std::alloc::Global;
 
+// By name, since a table of functions would list the same names and say no more.
 impl Answer for Answered {
     fn of_line(heap: Global, line: &str) -> Result<Answered, Fault> {
         let words: Vec<&str> = line.split(' ').collect(heap)?;

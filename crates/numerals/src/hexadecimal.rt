@@ -20,8 +20,8 @@ fn is_sized(text: &[u8]) -> bool
     text.len() == 64
 }
 
-// Two characters at a time, to the first that are no digits.
-pub(crate) fn read_digest(text: &[u8]) -> Option<[u8; 32]>
+// The digest that 64 hexadecimal digits stand for: two characters at a time, to the first that are no digits.
+pub fn digest(text: &[u8]) -> Option<[u8; 32]>
     ensures { result ≡ digest_of text.now }
 {
     if !is_sized(text) {

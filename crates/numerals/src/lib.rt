@@ -1,10 +1,9 @@
 // Numbers and digests as text: hexadecimal digests read, decimals read and written.
-// Public functions are thin over private ones that promise the same, so that an edit of one changes one call.
 #![tactic(auto)]
 
 ghost use Rattle.std.specs.Prelude.{◌≡◌, ◌+◌, ◌<◌, ◌≤◌, length, take, IfSome, decimal};
 ghost use Rattle.numerals.specs.Decimals.{decimal_as};
-ghost use Rattle.numerals.specs.Digests.{digit_of, digest_of};
+ghost use Rattle.numerals.specs.Digests.{digit_of};
 ghost use Rattle.octets.specs.Fronts.{at_front};
 
 mod decimals;
@@ -14,7 +13,7 @@ mod unsigned;
 mod writing;
 
 use decimals::read_up_to;
-use hexadecimal::read_digest;
+pub use hexadecimal::digest;
 pub use laws::{decimals_read_back, digests_read_back, numerals_worked};
 pub use unsigned::Unsigned;
 pub use writing::Decimal;
@@ -32,13 +31,6 @@ pub fn digit(c: char) -> Option<u8>
     }
 }
 
-// The digest that 64 hexadecimal digits stand for.
-pub fn digest(text: &[u8]) -> Option<[u8; 32]>
-    ensures { result ≡ digest_of text.now }
-{
-    read_digest(text)
-}
-
 // The decimal that a text is, without a leading zero, where the type has it: at a type of numbers below k, `decimal_of k` of the text.
 pub fn decimal<N: Unsigned>(text: &[u8]) -> Option<N>
     ensures { result ≡ decimal_as N.of (N.LARGEST + 1) text.now }
@@ -47,7 +39,7 @@ pub fn decimal<N: Unsigned>(text: &[u8]) -> Option<N>
 }
 
 // Writes a number at the front of `out`, whose rest stays, and answers how many digits it has: a buffer and its length, since nothing here
-// allocates; `Decimal` holds both.
+// allocates; `Decimal` holds both. Over a private function that calls itself, so that an edit here changes one call.
 pub fn write_decimal(n: u64, out: &mut [u8; 20]) -> usize
     ensures value { result ≡ length (decimal n) }
     ensures after { out.new ≡ at_front (decimal n) out.old }

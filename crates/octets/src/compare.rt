@@ -2,7 +2,8 @@
 ghost use Rattle.std.specs.Prelude.{◌≡◌, Decides};
 ghost use Rattle.octets.specs.Equality.{same};
 
-pub(crate) fn no_difference(a: &[u8], b: &[u8]) -> bool
+// Whether two lists of bytes are equal. Where they are equally long every byte of both is read, whatever they hold.
+pub fn equal(a: &[u8], b: &[u8]) -> bool
     ensures value { result ≡ same a.now b.now }
     ensures law { Decides result (a.now ≡ b.now) }
 {

@@ -13,10 +13,12 @@ fn digit(value: u8) -> u8
     }
 }
 
-pub(crate) fn digits_of(digest: &[u8; 32]) -> [u8; 64]
+// A digest as 64 characters, two for each byte.
+pub fn hexadecimal(digest: &[u8; 32]) -> [u8; 64]
     ensures { result ≡ hexadecimal digest.now }
 {
     let mut text = [0u8; 64];
+    // into places of the array, since of chunks that are lent for writing the library says their length alone
     for (i, byte) in digest.iter().enumerate() {
         text[2 * i] = digit(*byte / 16);
         text[2 * i + 1] = digit(*byte % 16);

@@ -45,7 +45,7 @@ impl WriteText for GoAhead {
     }
 }
 
-// The go-ahead that a field is, if it is one: no conversion, since callers have `read`.
+// The go-ahead that a field is, if it is one: no conversion, since callers have `read`, and a chain shorter than a trait to share.
 fn of(field: &[u8]) -> Option<GoAhead>
     ensures { result ≡ signal field.now }
 {

@@ -1,5 +1,4 @@
 // The S-box of AES (FIPS 197) as a table, and its rule at every entry.
-// Public functions are thin over private ones that promise the same, so that an edit of one changes one call.
 #![tactic(auto)]
 
 ghost use Rattle.std.specs.Prelude.{◌≡◌};
@@ -11,13 +10,6 @@ use table::SBOX;
 
 // The substitution of a byte. Its rule: the inverse in GF(2^8), which is one, and then the affine map.
 pub fn sub_byte(b: u8) -> u8
-    ensures value { result ≡ sub_byte b }
-    ensures inverse { Inverse b (inverse b) }
-{
-    entry(b)
-}
-
-fn entry(b: u8) -> u8
     ensures value { result ≡ sub_byte b }
     ensures inverse { Inverse b (inverse b) }
 {

@@ -53,6 +53,7 @@ impl StoreFault {
 #[derive(Clone, Copy, PartialEq, Eq, Debug)]
 pub struct Lower(pub StoreFault);
 
+// By hand, since it raises the level on the way.
 impl From<Lower> for StoreFault {
     ghost from_gives = { λ l f. f ≡ raise l.0 };
 

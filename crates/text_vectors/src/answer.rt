@@ -27,7 +27,7 @@ fn yes_or_no(truth: bool) -> &'static str {
     if truth { "yes" } else { "no" }
 }
 
-// The error is another crate's, and has no `Display`.
+// The words are this program's, and no `Display` of the error.
 fn reason(undecoded: Undecoded) -> &'static str {
     match undecoded {
         Undecoded::NotCanonical => "not canonical",

@@ -11,7 +11,7 @@ use responses::Response;
 use std::alloc::Global;
 use std::str::FromStr;
 
-#[derive(Clone, Copy)]
+#[derive(Clone, Copy, PartialEq, Eq, Debug)]
 pub enum Kind {
     LogIn,
     LogInResponse,

@@ -26,9 +26,7 @@ pub fn announce<'a>(name: &'a str, file: &[u8]) -> Option<Announcement<'a>>
 impl fmt::Display for Announcement<'_> {
     fn fmt<W: fmt::Write>(&self, f: &mut fmt::Formatter<W>) -> fmt::Result {
         write!(f, "upl\n{}\n{}\n", self.name, self.size)?;
-        for character in octets::hexadecimal(&self.digest) {
-            f.write_char(char::from(character))?;
-        }
-        Ok(())
+        let digest = octets::hexadecimal(&self.digest);
+        f.write_str(str::from_utf8(&digest).map_err(|_| fmt::Error)?)
     }
 }

@@ -17,6 +17,7 @@ pub struct Line<'a, S> {
 // What the host takes from its source of randomness; here fixed, so that the program always writes the same.
 const RANDOM: [u8; 6] = [1, 2, 3, 4, 5, 6];
 
+// By the flag that a fragment carries: a conversion would need a type of its own for it.
 fn kind_of(last: bool) -> Kind {
     if last {
         Kind::LastUploadFragment

@@ -12,7 +12,7 @@ mod line;
 mod receiver;
 
 use announcement::{Announcement, announce};
-use anyhow::anyhow;
+use anyhow::{Context, anyhow};
 use line::Line;
 use message::Seal;
 use octets::equal;
@@ -88,9 +88,7 @@ fn carry_under<S: Seal>(
 
 fn run(rt: &HostRuntime) -> anyhow::Result<()> {
     let scan = fs::read(rt, NAME)?;
-    let Some(announcement) = announce(NAME, &scan) else {
-        return Err(anyhow!("the file is too long for one upload"));
-    };
+    let announcement = announce(NAME, &scan).context("the file is too long for one upload")?;
     println!(rt; "{announcement}")?;
     println!(rt; "closed seal")?;
     carry_under(rt, &ClosedSeal::new(&KEY, &SESSION), &scan, &announcement)?;

@@ -8,7 +8,7 @@ pub struct Receiver {
 }
 
 // A fragment that was taken, and the size of the message that brought it.
-#[derive(Clone, Copy)]
+#[derive(Clone, Copy, PartialEq, Eq, Debug)]
 pub struct Taken {
     pub fragment: Fragment,
     pub size: usize,

@@ -56,7 +56,8 @@ impl Status {
         }
     }
 
-    // The status of a word's family that a field is, if it is one of the two.
+    // The status of a word's family that a field is, if it is one of the two: by a chain of its own, which is shorter than a trait that
+    // words and causes could share with it.
     pub fn of(word: Word, field: &[u8]) -> Option<Status>
         ensures status { result ≡ status_read word field.now }
         ensures grants { option_map grants result ≡ granted word field.now }

@@ -4,5 +4,5 @@ use Rattle.mac.proofs.code.Hmac.take_all.Goals as goal
 
 pub loop-part-preserved : goal.loop-part-preserved
 loop-part-preserved c k m a =
-    parts_more k m c.args.parts.now c.loop-part.part-index (coding c.take_in.new.self) _
-    c.loop-part-test.true (c.take_in.ensures.law _ _ (c.loop-part.invariant k m a))
+    parts_more k m c.args.parts.now c.loop-part.part-index (coding c.update.new.self) _
+    c.loop-part-test.true (c.update.ensures.law _ _ (c.loop-part.invariant k m a))

@@ -2,7 +2,7 @@ use Rattle.std.proofs.Common.{◌≡◌, ◌%◌, ◌^◌, ◌<◌, length}
 use Rattle.std.specs.Slice.Iter.{chunks_rest, chunks_size}
 use Rattle.digest.specs.Running.{absorb}
 use Rattle.digest.specs.Stands.{running}
-use Rattle.digest.proofs.hasher.Hasher.absorb.Given as goal
+use Rattle.digest.proofs.hasher.Hasher.update.Given as goal
 
 -- While bytes are left, the buffer is empty.
 abbrev pub invariant-loop-part : goal.invariant-loop-part

@@ -6,7 +6,7 @@ use Rattle.std.proofs.lemmas.Iterator.Adapters.{YieldsList-from_rev_slice}
 use Rattle.std.proofs.lemmas.Iterator.Consumers.{YieldsList-turn, YieldsList-end}
 use Rattle.ghash.specs.Field.{halves, partial, product}
 use Rattle.ghash.proofs.Product.{times_more}
-use Rattle.ghash.proofs.Multiplier.gathered.Goals as goal
+use Rattle.ghash.proofs.Multiplier.times.Goals as goal
 
 pub loop-row-init : goal.loop-row-init
 unfolding partial

@@ -1,6 +1,6 @@
 use Rattle.std.proofs.Common.{◌≡◌, ◌-◌, ◌*◌, ◌/◌, ◌^◌, length}
 use Rattle.ghash.specs.Field.{halves, partial}
-use Rattle.ghash.proofs.Multiplier.gathered.Given as goal
+use Rattle.ghash.proofs.Multiplier.times.Given as goal
 
 abbrev pub invariant-loop-row : goal.invariant-loop-row
 invariant-loop-row l =

@@ -1,6 +1,6 @@
 use Rattle.std.proofs.Common.{◌≡◌, ◌-◌, ◌≤◌, length}
 use Rattle.mac.specs.Pbkdf2.{iterated, folded}
-use Rattle.mac.proofs.password.derive.Given as goal
+use Rattle.mac.proofs.password.pbkdf2.Given as goal
 
 abbrev pub invariant-loop-round : goal.invariant-loop-round
 invariant-loop-round l =

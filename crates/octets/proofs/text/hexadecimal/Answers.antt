@@ -1,7 +1,7 @@
 use Rattle.std.proofs.Common.{refl, arith}
 use Rattle.octets.specs.Hexadecimal.{hexadecimal}
 use Rattle.octets.proofs.Characters.{text-more}
-use Rattle.octets.proofs.text.digits_of.Goals as goal
+use Rattle.octets.proofs.text.hexadecimal.Goals as goal
 
 pub loop-i-init : goal.loop-i-init
 unfolding hexadecimal

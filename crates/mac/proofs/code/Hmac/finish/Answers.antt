@@ -3,7 +3,7 @@ use Rattle.digest.specs.Running.{absorb, finished}
 use Rattle.digest.specs.Stands.{running}
 use Rattle.mac.specs.Codes.{coding, code}
 use Rattle.mac.proofs.Codes.{comes_to_hmac}
-use Rattle.mac.proofs.code.Hmac.complete.Goals as goal
+use Rattle.mac.proofs.code.Hmac.finish.Goals as goal
 
 pub returns : goal.returns
 unfolding code

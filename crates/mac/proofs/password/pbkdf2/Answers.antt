@@ -1,7 +1,7 @@
 use Rattle.std.proofs.Common.{◌≡◌, ◌-◌, ◌∙◌, arith}
 use Rattle.mac.specs.Pbkdf2.{iterated, folded, pbkdf2}
 use Rattle.mac.proofs.Rounds.{iterated_more, folded_more}
-use Rattle.mac.proofs.password.derive.Goals as goal
+use Rattle.mac.proofs.password.pbkdf2.Goals as goal
 
 pub loop-round-init : goal.loop-round-init
 unfolding iterated folded

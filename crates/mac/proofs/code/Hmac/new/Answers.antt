@@ -2,7 +2,7 @@ use Rattle.std.proofs.Common.{◌≡◌, ap, ◌∙◌}
 use Rattle.mac.specs.Codes.{coding, keyed}
 use Rattle.mac.specs.Hmac.{inner_key, outer_key, masked}
 use Rattle.mac.proofs.Codes.{keyed-none}
-use Rattle.mac.proofs.code.Hmac.under.Goals as goal
+use Rattle.mac.proofs.code.Hmac.new.Goals as goal
 
 pub returns : goal.returns
 unfolding keyed inner_key outer_key

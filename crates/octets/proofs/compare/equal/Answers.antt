@@ -3,7 +3,7 @@ use lib.Bits.{bit_or, bit_xor}
 use Rattle.std.proofs.lemmas.Iterator.{YieldsList-from_slice, YieldsList-from_zip}
 use Rattle.std.proofs.lemmas.Iterator.Consumers.{fold_from_yields_List}
 use Rattle.octets.proofs.Agreement.{gathered, alike, agree_same, unlike}
-use Rattle.octets.proofs.compare.no_difference.Goals as goal
+use Rattle.octets.proofs.compare.equal.Goals as goal
 
 pub returns-then-a-b : goal.returns-then-a-b
 returns-then-a-b c =

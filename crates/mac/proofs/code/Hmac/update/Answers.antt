@@ -1,7 +1,7 @@
 use Rattle.std.proofs.Common.{◌≡◌, ap, ◌∙◌}
 use Rattle.mac.specs.Codes.{coding, keyed, take_in}
 use Rattle.mac.proofs.Codes.{takes_twice}
-use Rattle.mac.proofs.code.Hmac.take_in.Goals as goal
+use Rattle.mac.proofs.code.Hmac.update.Goals as goal
 
 pub returns : goal.returns
 returns c =

@@ -1,7 +1,7 @@
 use Prim.Native.Nat.{◌<◌}
 use borrow.Author.Rules.{rules}
 use Rattle.sbox.proofs.Rule.{rule, inverse_is}
-use Rattle.sbox.proofs.entry.Goals as goal
+use Rattle.sbox.proofs.sub_byte.Goals as goal
 
 pub returns : goal.returns
 returns c =

@@ -1,6 +1,6 @@
 use Rattle.std.proofs.Common.{[], length, get_or, sym, refl, ap, ◌∙◌, arith, length-set, eqb-true}
 use Rattle.numerals.proofs.Characters.{not_sized, read_none, pair-at, read_more, read_stops, read_done}
-use Rattle.numerals.proofs.hexadecimal.read_digest.Goals as goal
+use Rattle.numerals.proofs.hexadecimal.digest.Goals as goal
 
 pub returns-then-not-is_sized : goal.returns-then-not-is_sized
 returns-then-not-is_sized c = not_sized c.args.text.now (sym c.if-not-is_sized.ensures)

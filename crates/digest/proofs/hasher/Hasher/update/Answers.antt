@@ -3,7 +3,7 @@ use Rattle.std.specs.Slice.Iter.{chunks_rest}
 use Rattle.digest.specs.Running.{absorb}
 use Rattle.digest.specs.Stands.{running}
 use Rattle.digest.proofs.Steps.{count_more, parts_more, parts_all, absorbed_more}
-use Rattle.digest.proofs.hasher.Hasher.absorb.Goals as goal
+use Rattle.digest.proofs.hasher.Hasher.update.Goals as goal
 
 pub loop-part-init : goal.loop-part-init
 loop-part-init c =
