@@ -17,7 +17,8 @@ use decoding::{decoded_length, write_bytes};
 use encoding::{encoded_length, write_text};
 pub use laws::{decodes_what_was_encoded, encoding_of_what_it_decodes_to, worked_texts};
 
-// Writes the text of `bytes` at the front of `out` and answers its length; None, and nothing written, where there is no room.
+// Writes the text of `bytes` at the front of `out` and answers its length; None, and nothing written, where there is no room. What stands
+// at the front is said here and in `decode` by one definition: a type for two functions would say no more.
 pub fn encode(bytes: &[u8], out: &mut [u8]) -> Option<usize>
     ensures answer { result ≡ encoded bytes.now out.old }
     ensures buffer { out.new ≡ placed (Some (encode bytes.now)) out.old }

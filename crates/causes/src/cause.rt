@@ -50,7 +50,7 @@ impl Cause {
         self as u8
     }
 
-    // The words that say it, as the bytes of a field.
+    // The words that say it, as the bytes of a field, since nothing is printed here.
     pub fn word(self) -> &'static [u8]
         ensures { word self ≡ result.now }
     {

@@ -127,7 +127,7 @@ pub(crate) fn compress(state: &mut [u32; 8], block: &[u8; 64])
         v = round(v, &w, t + 3);
         extend(&mut w, t + 19);
     }
-    // by four as before, by index since the schedule is read and the rounds counted by it
+    // four rounds to a turn here too, for the same speed; by index, since a round reads constants and schedule at its number
     for i in 12..16 {
         let t = 4 * i;
         v = round(v, &w, t);

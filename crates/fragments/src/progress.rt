@@ -45,8 +45,8 @@ impl Progress {
         size
     }
 
-    // Takes the next fragment, and tells whether the file is now whole, which is what its caller asks next; a refused fragment changes
-    // nothing.
+    // Takes the next fragment, and tells whether the file is now whole, by a truth, since a type of two answers would say no more; a
+    // refused fragment changes nothing.
     pub fn accept(&mut self, fragment: &[u8], last: bool) -> Result<bool, FragmentRefusal>
         ensures value { result ≡ verdict (standing self.old) fragment.now last }
         ensures after { standing self.new ≡ after (standing self.old) fragment.now last }

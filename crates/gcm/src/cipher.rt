@@ -60,8 +60,8 @@ impl Gcm {
         Ok(())
     }
 
-    // Decrypts the body (its own clause on the text, as in `Seal::open`, which stands above and knows no GCM) into the front of the text where the tag is the body's own and the text has room; else leaves
-    // the text as it is.
+    // Decrypts the body into the front of the text where the tag is the body's own and the text has room; else leaves the text as it is.
+    // The clause on the text stands in `Seal::open` too, which is above and knows no GCM.
     pub fn decrypt_to(
         &self,
         iv: &[u8; 12],
@@ -80,7 +80,7 @@ impl Gcm {
         self.stream_to(iv, body, text)
     }
 
-    // The body with the key stream added, at the front of the text, where it has room.
+    // The body with the key stream added, at the front of the text, where it has room: a worker of `decrypt_to`, with its clauses.
     fn stream_to(&self, iv: &[u8; 12], body: &[u8], text: &mut [u8]) -> Result<(), Undecrypted>
         ensures answer { result ≡ placing (Some (gctr (under self.now.aes) iv.now 2 body.now)) text.old }
         ensures text { text.new ≡ placed (Some (gctr (under self.now.aes) iv.now 2 body.now)) text.old }
@@ -109,7 +109,7 @@ impl Gcm {
     {
         let base = iv_block(iv);
         let full = text.len() / 16;
-        // by index, since the library says of no chunks that are written what the text is after them
+        // by index: tried by chunks, of which the library does not say what the text is after they are written
         for i in 0..full {
             let block = self.counter_block(base, i + first);
             add_block(&mut text[16 * i..16 * i + 16], block);

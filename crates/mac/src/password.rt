@@ -7,7 +7,7 @@ use crate::code::Hmac;
 fn xor_into(sum: &mut [u8; 32], by: &[u8; 32])
     ensures { sum.new ≡ xors sum.old by.now }
 {
-    // into places of the array, since of a zip that writes the library says the length alone
+    // by the index of the other list, since of a zip that writes the library says the length alone
     for (i, byte) in by.iter().enumerate() {
         sum[i] ^= *byte;
     }

@@ -29,8 +29,8 @@ pub trait Seal {
         ensures body { payload.new ≡ (sealing self.now header.now payload.old).0 }
         ensures tag { result ≡ (sealing self.now header.now payload.old).1 };
 
-    // Opens a body (header, body and tag as they come in a message, which a struct would only take apart again), and puts the payload at
-    // the front of the text; the text is untouched where it does not open or has no room.
+    // Opens a body, and puts the payload at the front of the text; the text is untouched where it does not open or has no room. Header,
+    // body and tag come apart from the message, and a struct would be taken apart at once; the clause on the text is each seal's to show.
     fn open(
         &self,
         header: &[u8; 16],

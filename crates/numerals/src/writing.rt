@@ -44,6 +44,7 @@ fn last_digit(n: u64) -> u8
 }
 
 // The digits before the last one first, then the last one.
+// Under `write_decimal`, since it calls itself; the buffer and its length beside it, since nothing allocates.
 pub(crate) fn put(n: u64, out: &mut [u8; 20]) -> usize
     ensures value { result ≡ length (decimal n) }
     ensures after { out.new ≡ at_front (decimal n) out.old }

@@ -24,7 +24,7 @@ impl GoAhead {
         Ok(go_ahead)
     }
 
-    // Its text, as the bytes of a field.
+    // Its text, as the bytes of a field, since nothing is printed here.
     fn text(self) -> &'static [u8]
         ensures { result.now ≡ signal_text self }
     {
@@ -45,7 +45,8 @@ impl WriteText for GoAhead {
     }
 }
 
-// The go-ahead that a field is, if it is one: no conversion, since callers have `read`, and a chain shorter than a trait to share.
+// The go-ahead that a field is, if it is one: no conversion, since callers have `read`; the chain is shorter than a trait to share
+// it would be.
 fn of(field: &[u8]) -> Option<GoAhead>
     ensures { result ≡ signal field.now }
 {

@@ -8,8 +8,9 @@ use fields::{Fields, TextRefusal, WriteText, WrongField};
 use names::is_user;
 use numerals::Decimal;
 
-// When it was sent, and the user with the password, which are parts of the text that it was read from.
-#[derive(Clone, Copy, PartialEq, Eq, Debug)]
+// When it was sent, and the user with the password, which are parts of the text that it was read from. Neither printed nor compared, since
+// it holds a password.
+#[derive(Clone, Copy)]
 pub struct LogIn<'a> {
     pub stamp: u64,
     pub user: &'a [u8],

@@ -15,7 +15,7 @@ pub struct OpenSeal {
     session: [u8; 16],
 }
 
-// Puts bytes at the front of the text, which is untouched where they have no room.
+// Puts bytes at the front of the text, which is untouched where they have no room: a worker of `open`, with its clauses.
 fn put(bytes: &[u8], text: &mut [u8]) -> Result<(), Unopened>
     ensures answer { is_ok result ≡ fits (Some bytes.now) text.old }
     ensures text { text.new ≡ placed (Some bytes.now) text.old }

@@ -10,11 +10,11 @@ use std::fmt::Display;
 use words::Word;
 
 // What is said after the status.
-#[derive(Drop)]
+#[derive(Clone, Copy, PartialEq, Eq, Debug)]
 pub struct Said<'a>(Outcome<'a>);
 
 // Start and end of a field, after a space; a field that is not there is not shown.
-#[derive(Drop)]
+#[derive(Clone, Copy, PartialEq, Eq, Debug)]
 pub struct Span(Option<Place>);
 
 impl fmt::Display for Said<'_> {

@@ -22,7 +22,7 @@ impl<T: Text> fmt::Display for Shown<'_, T> {
 }
 
 // Characters as they are.
-#[derive(Drop)]
+#[derive(Clone, Copy, PartialEq, Eq, Debug)]
 pub struct Ascii<'a>(pub &'a [u8]);
 
 impl fmt::Display for Ascii<'_> {
@@ -34,11 +34,14 @@ impl fmt::Display for Ascii<'_> {
     }
 }
 
-// Whether it is written, in as many bytes as the text has, as that text.
-fn is_written_as<T: Text>(heap: Global, said: &T, text: &[u8]) -> Result<bool, Fault> {
+// What a text was read as, if that is written, in as many bytes as the text has, as that text.
+fn shown<T: Text>(heap: Global, text: &[u8], said: &T) -> Result<Answered, Fault> {
     let mut out = Lent::new(heap, text.len())?;
-    let size = said.write(&mut out.bytes);
-    Ok(size == Ok(text.len()) && out.bytes.as_slice() == text)
+    if said.write(&mut out.bytes) != Ok(text.len()) || out.bytes.as_slice() != text {
+        return Ok(Answered::NotWrittenBack);
+    }
+    let shown = Shown(said);
+    Ok(Answered::Read(format!(in heap; "{shown}")?))
 }
 
 // What reading a text gave.
@@ -48,12 +51,8 @@ pub(crate) fn told<T: Text + Drop>(
     read: Result<T, WrongField>,
 ) -> Result<Answered, Fault> {
     match read {
+        Ok(said) => shown(heap, text, &said),
         Err(wrong) => Ok(Answered::Wrong(wrong)),
-        Ok(said) if is_written_as(heap, &said, text)? => {
-            let shown = Shown(&said);
-            Ok(Answered::Read(format!(in heap; "{shown}")?))
-        }
-        Ok(_) => Ok(Answered::NotWrittenBack),
     }
 }
 

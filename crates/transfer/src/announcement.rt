@@ -3,7 +3,7 @@ ghost use Rattle.transfer.specs.Carried.{Announced};
 
 use std::fmt;
 
-#[derive(Drop)]
+#[derive(Clone, Copy, PartialEq, Eq, Debug)]
 pub struct Announcement<'a> {
     pub name: &'a str,
     pub size: u32,

@@ -24,7 +24,7 @@ pub enum Tells {
 }
 
 impl Status {
-    // Its text, as the bytes of a field.
+    // Its text, as the bytes of a field, since nothing is printed here.
     pub fn text(self) -> &'static [u8]
         ensures { result.now ≡ status_text self }
     {

@@ -30,7 +30,7 @@ impl Word {
         Word::Dnl,
     ];
 
-    // Its three characters, as the bytes of a field.
+    // Its three characters, as the bytes of a field, since nothing is printed here.
     pub fn text(self) -> &'static [u8]
         ensures { result.now ≡ word_text self }
     {
