@@ -35,7 +35,7 @@ impl fmt::Display for Ascii<'_> {
 }
 
 // What a text was read as, if that is written, in as many bytes as the text has, as that text.
-fn shown<T: Text>(heap: Global, text: &[u8], said: &T) -> Result<Answered, Fault> {
+fn in_words<T: Text>(heap: Global, text: &[u8], said: &T) -> Result<Answered, Fault> {
     let mut out = Lent::new(heap, text.len())?;
     if said.write(&mut out.bytes) != Ok(text.len()) || out.bytes.as_slice() != text {
         return Ok(Answered::NotWrittenBack);
@@ -51,7 +51,7 @@ pub(crate) fn told<T: Text + Drop>(
     read: Result<T, WrongField>,
 ) -> Result<Answered, Fault> {
     match read {
-        Ok(said) => shown(heap, text, &said),
+        Ok(said) => in_words(heap, text, &said),
         Err(wrong) => Ok(Answered::Wrong(wrong)),
     }
 }
