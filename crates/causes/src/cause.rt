@@ -1,6 +1,6 @@
 // The nine causes, their numbers and their words.
 ghost use Rattle.std.specs.Prelude.{◌≡◌};
-ghost use Rattle.causes.specs.Causes.{number, word, numbered, worded};
+ghost use Rattle.causes.specs.Causes.{number, word, cause_of_word, numbered, worded};
 
 use octets::equal;
 
@@ -90,17 +90,23 @@ impl TryFrom<u8> for Cause {
     }
 }
 
-// The cause that some words say: by the chain that finds a command's word too, which is shorter than a trait that both could share.
+// The cause whose words these are: by the chain that finds a command's word too, which is shorter than a trait that both could share.
+fn cause_of_word(words: &[u8]) -> Option<Cause>
+    ensures { result ≡ cause_of_word words.now }
+{
+    Cause::ALL
+        .iter()
+        .copied()
+        .find(|cause| equal(words, cause.word()))
+}
+
+// The cause that some words say.
 impl TryFrom<&[u8]> for Cause {
     type Error = UnknownWords;
 
     ghost try_from_gives = { λ t r. r ≡ worded t.now };
 
     fn try_from(words: &[u8]) -> Result<Cause, UnknownWords> {
-        Cause::ALL
-            .iter()
-            .copied()
-            .find(|cause| equal(words, cause.word()))
-            .ok_or(UnknownWords)
+        cause_of_word(words).ok_or(UnknownWords)
     }
 }

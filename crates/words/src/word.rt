@@ -1,6 +1,6 @@
 // The words of the seven commands.
 ghost use Rattle.std.specs.Prelude.{◌≡◌};
-ghost use Rattle.words.specs.Words.{word_text, word_read};
+ghost use Rattle.words.specs.Words.{word_text, word_of, word_read};
 
 use octets::equal;
 
@@ -46,17 +46,23 @@ impl Word {
     }
 }
 
-// The word that a field is: by the chain that finds a cause too, which is shorter than a trait that both could share.
+// The word whose text a field is: by the chain that finds a cause too, which is shorter than a trait that both could share.
+fn word_of(field: &[u8]) -> Option<Word>
+    ensures { result ≡ word_of field.now }
+{
+    Word::ALL
+        .iter()
+        .copied()
+        .find(|word| equal(field, word.text()))
+}
+
+// The word that a field is.
 impl TryFrom<&[u8]> for Word {
     type Error = UnknownWord;
 
     ghost try_from_gives = { λ f r. r ≡ word_read f.now };
 
     fn try_from(field: &[u8]) -> Result<Word, UnknownWord> {
-        Word::ALL
-            .iter()
-            .copied()
-            .find(|word| equal(field, word.text()))
-            .ok_or(UnknownWord)
+        word_of(field).ok_or(UnknownWord)
     }
 }
