@@ -1,4 +1,4 @@
-use Rattle.std.proofs.Common.{◌≡◌, sym, refl, ◌∙◌, arith, length-set}
+use Rattle.std.proofs.Common.{sym, refl, ◌∙◌, arith, length-set}
 use Rattle.digest.specs.Sha256.{schedule}
 use Rattle.digest.proofs.Rounds.{scheduled_early, schedule-more}
 use Rattle.digest.proofs.Chunks.{chunk_word}
@@ -15,6 +15,3 @@ loop-t-preserved c =
       schedule-more _ _ _ _ (omega arith) c.loop-t.invariant.0 (v ∙ sym (scheduled_early _ _ _ (omega arith))),
       length-set _ _ _ ∙ c.loop-t.invariant.1,
     )
-
-pub returns : goal.returns
-returns c = let e : c.loop-t.t ≡ 16 = omega arith in record { whole = c.loop-t.invariant.1; front = rw e at c.loop-t.invariant.0 }
