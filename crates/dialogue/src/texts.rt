@@ -1,4 +1,7 @@
 // The texts of one upload: each is written by the end that says it, and read back as the other end does.
+ghost use Rattle.std.specs.Prelude.{◌≡◌, IfOk};
+ghost use Rattle.fields.specs.Cuts.{joined};
+
 use crate::shown::Shown;
 use crate::text_failure::TextFailure;
 use commands::Command;
@@ -22,7 +25,9 @@ fn say<'b, T: WriteText>(
     name: &str,
     said: &T,
     buffer: &'b mut [u8],
-) -> Result<&'b [u8], TextFailure> {
+) -> Result<&'b [u8], TextFailure>
+    ensures { IfOk result (λ text. text.now ≡ joined (T.fields said.now)) }
+{
     let size = said.write(buffer)?;
     let text = buffer.get(..size).ok_or(TextFailure::Unlike)?;
     println!(rt; "{name}: {}", Shown(text))?;

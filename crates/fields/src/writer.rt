@@ -62,6 +62,8 @@ fn lay(fields: &[&[u8]], out: &mut [u8])
 
 // Writes a text of these fields at the front of the output, and answers its length. Refusals 3 and 5 leave the output untouched;
 // `formed` tells whether the fields are well-formed: a truth and no refusal yet, since the room is judged before it.
+// Part of its callers, which know how many fields there are.
+#[inline(always)]
 pub fn write_fields(fields: &[&[u8]], formed: bool, out: &mut [u8]) -> Result<usize, TextRefusal>
     ensures answer { result ≡ writing (lists fields.now) formed (length out.old) }
     ensures output { out.new ≡ buffer_after (lists fields.now) formed out.old }

@@ -40,17 +40,19 @@ impl WriteText for GoAhead {
 
     ghost formed = { λ _. true };
 
+    // As all texts are, though one of six bytes could be written faster by itself.
     fn write(&self, out: &mut [u8]) -> Result<usize, TextRefusal> {
         write_fields(&[self.text()], true, out)
     }
 }
 
-// The go-ahead that a field is, if it is one: no conversion, since callers have `read`; the chain is shorter than a trait to share
-// it would be.
+// The go-ahead that a field is, if it is one: no conversion, since callers have `read`. By its two texts, which the compiler then knows.
 fn of(field: &[u8]) -> Option<GoAhead>
     ensures { result ≡ signal field.now }
 {
-    [GoAhead::Ready, GoAhead::Cancel]
-        .into_iter()
-        .find(|go_ahead| equal(field, go_ahead.text()))
+    match field {
+        text if equal(text, b"ready") => Some(GoAhead::Ready),
+        text if equal(text, b"cancel") => Some(GoAhead::Cancel),
+        _ => None,
+    }
 }
